@@ -1,0 +1,5 @@
+pub mod Rows
+pub mod General
+pub mod Heating
+pub mod Standard
+pub mod Apart

@@ -1,0 +1,4 @@
+pub mod Both
+pub mod Taken
+pub mod TimeLaws
+pub mod DateLaws

@@ -1,0 +1,4 @@
+pub mod Fields
+pub mod Calendar
+pub mod Time
+pub mod Date

@@ -1,0 +1,4 @@
+pub mod Least
+pub mod Exponents
+pub mod Octets
+pub mod Laws

@@ -1,0 +1,3 @@
+// Two types one after the other.
+pub mod facts;
+pub mod join;

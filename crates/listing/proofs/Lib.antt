@@ -1,0 +1,11 @@
+pub mod Law
+pub mod Whole
+pub mod Field
+pub mod Sub
+pub mod Readings
+pub mod Rows
+pub mod Kept
+pub mod Listed
+pub mod Lines
+pub mod Written
+pub mod Tails

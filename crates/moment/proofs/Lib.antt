@@ -1,0 +1,4 @@
+pub mod FieldLaws
+pub mod FlagLaws
+pub mod PartLaws
+pub mod DateTimeLaws

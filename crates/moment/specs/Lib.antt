@@ -1,0 +1,4 @@
+pub mod Bits
+pub mod Flags
+pub mod Voidable
+pub mod DateTime

@@ -1,0 +1,6 @@
+// A date and time.
+pub mod date_time;
+pub mod facts;
+mod flags;
+mod moment;
+mod parts;

@@ -1,0 +1,4 @@
+pub mod Range
+pub mod Control
+pub mod Step
+pub mod Scene

@@ -1,0 +1,3 @@
+// The type of fourteen characters.
+pub mod facts;
+pub mod text;
