@@ -3,13 +3,13 @@ use std::io;
 
 mod print;
 mod dial;
-mod clock;
+mod plate;
 mod shelf;
 mod wall;
 
 fn main(rt: LibcRuntime) -> io::Result<()> {
     dial::visit(&rt)?;
-    clock::visit(&rt)?;
+    plate::visit(&rt)?;
     shelf::visit(&rt)?;
     wall::visit(&rt)
 }

@@ -8,6 +8,7 @@ use books::general::GeneralBookBook;
 use books::heating::HeatingBookBook;
 use books::house::house_books;
 use datapoint::refusal::Refusal;
+use points::mark::MarkDebug;
 use std::io;
 
 // What a call answered.
