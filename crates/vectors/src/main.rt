@@ -1,4 +1,5 @@
 // Runs known payloads and readings through the books of the house, and prints a line for each.
+mod absent;
 mod came;
 mod heating;
 mod moments;
@@ -12,6 +13,7 @@ mod times;
 mod vector;
 mod voids;
 
+use crate::absent::run_absent;
 use crate::came::CameDebug;
 use crate::came::ROOM;
 use crate::came::read_into;
@@ -34,9 +36,12 @@ use crate::vector::Page;
 use crate::vector::Vector;
 use crate::voids::voids;
 use book::book::Book;
+use book::bound::Bound;
 use book::bound::BoundBook;
 use book::number::TypeNumber;
+use books::general::GeneralBook;
 use books::general::GeneralBookBook;
+use books::heating::HeatingBook;
 use books::heating::HeatingBookBook;
 use books::house::house_books;
 use datapoint::refusal::Refusal;
@@ -140,25 +145,36 @@ fn run_pages<B: Book>(
     Ok(())
 }
 
-// Runs all tables, and prints how many rows there are and how many differ.
-fn run<B: Book>(rt: &LibcRuntime, book: &B) -> io::Result<()> {
+// Runs all tables.
+fn run<B: Book>(rt: &LibcRuntime, book: &B, tally: &mut Tally) -> io::Result<()> {
+    run_pages(rt, book, octets(), tally)?;
+    run_pages(rt, book, numbers(), tally)?;
+    run_pages(rt, book, times(), tally)?;
+    run_pages(rt, book, moments(), tally)?;
+    run_pages(rt, book, voids(), tally)?;
+    run_pages(rt, book, texts(), tally)?;
+    run_pages(rt, book, heating(), tally)?;
+    run_shapes(rt, book, tally)
+}
+
+// Prints how many rows there are and how many differ.
+fn main(rt: LibcRuntime) -> io::Result<()> {
     let mut tally = Tally {
         rows: 0,
         differing: 0,
     };
-    run_pages(rt, book, octets(), &mut tally)?;
-    run_pages(rt, book, numbers(), &mut tally)?;
-    run_pages(rt, book, times(), &mut tally)?;
-    run_pages(rt, book, moments(), &mut tally)?;
-    run_pages(rt, book, voids(), &mut tally)?;
-    run_pages(rt, book, texts(), &mut tally)?;
-    run_pages(rt, book, heating(), &mut tally)?;
-    run_shapes(rt, book, &mut tally)?;
+    let house = house_books();
+    run(&rt, &house, &mut tally)?;
+    println!(rt, "The heating book bound before the general book:")?;
+    let other = Bound {
+        first: HeatingBook,
+        second: GeneralBook,
+    };
+    run_pages(&rt, &other, numbers(), &mut tally)?;
+    run_pages(&rt, &other, heating(), &mut tally)?;
+    println!(rt, "Numbers of no type, in either order:")?;
+    run_absent(&rt, &house, &other, &mut tally)?;
     let rows = tally.rows;
     let differing = tally.differing;
     println!(rt, "{rows} rows, {differing} differ")
-}
-
-fn main(rt: LibcRuntime) -> io::Result<()> {
-    run(&rt, &house_books())
 }
