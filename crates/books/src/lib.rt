@@ -1,4 +1,6 @@
 // The general book and the heating book of datapoint types.
+#![tactic(auto)]
+
 pub mod facts;
 pub mod general;
 pub mod heating;

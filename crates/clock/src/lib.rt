@@ -1,4 +1,6 @@
 // The time of day and the date.
+#![tactic(auto)]
+
 pub mod calendar;
 pub mod date;
 pub mod facts;

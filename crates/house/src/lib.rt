@@ -1,4 +1,6 @@
 // What houseboard prints.
+#![tactic(auto)]
+
 ghost use Rattle.std.specs.Prelude.{◌≡◌};
 ghost use Rattle.datapoint.specs.Refusals.{answer};
 ghost use Rattle.datapoint.specs.Calls.{delivered};

@@ -1,4 +1,6 @@
 // Loads the list on standard input into an empty board over the house's books, and prints what `report` says.
+#![tactic(auto)]
+
 ghost use Rattle.std.specs.Prelude.{◌≤◌, length, IfOk};
 
 use book::book::Book;

@@ -1,3 +1,5 @@
 // Two types one after the other.
+#![tactic(auto)]
+
 pub mod facts;
 pub mod join;

@@ -1,4 +1,6 @@
 // The lines of a list.
+#![tactic(auto)]
+
 pub mod draft;
 mod keys;
 pub mod line;

@@ -1,4 +1,6 @@
 // A date and time.
+#![tactic(auto)]
+
 pub mod date_time;
 pub mod facts;
 mod flags;

@@ -1,4 +1,6 @@
 // Types of one octet.
+#![tactic(auto)]
+
 pub mod control;
 pub mod facts;
 pub mod range;

@@ -1,4 +1,6 @@
 // The points of a board.
+#![tactic(auto)]
+
 pub mod mark;
 pub mod placed;
 pub mod point;

@@ -1,4 +1,6 @@
 // A visit to the showroom: what the library does, step by step.
+#![tactic(auto)]
+
 use std::io;
 
 mod dial;

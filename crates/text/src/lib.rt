@@ -1,3 +1,5 @@
 // The type of fourteen characters.
+#![tactic(auto)]
+
 pub mod facts;
 pub mod text;

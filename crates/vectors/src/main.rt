@@ -1,4 +1,6 @@
 // Runs known payloads and readings through the books of the house, and prints a line for each.
+#![tactic(auto)]
+
 mod absent;
 mod came;
 mod heating;
