@@ -44,7 +44,7 @@ reading_sized m l p octets xs h = l.counted p xs (All-from_get_or _ p 0 (λ i _.
 
 -- a proper payload has the counted octets
 pub proper_sized : (m : Meaning) → Lawful m → (xs : List ℤ) (p : List ℕ) → m.payload xs ≡ Some p → length p ≡ m.octets
-proper_sized m l xs p h = l.sized p xs (l.octets-made xs p h) (l.back xs p h)
+proper_sized m l xs p h = l.sized p xs (l.octets_made xs p h) (l.back xs p h)
 
 module _ (a b : Meaning) (la : Lawful a) (lb : Lawful b) where
   module _ (p : List ℕ) (xs : List ℤ) (o : Octets p) (h : (appended a b).reading p ≡ Some xs) where

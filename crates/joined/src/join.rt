@@ -72,10 +72,10 @@ fn read_after<T: DatapointType>(
     out: &mut [i64],
     start: usize,
 ) -> Result<usize, Refusal>
-    requires due { length payload.now ≡ (meaning half.now).octets }
-    requires room { start + (meaning half.now).fields ≤ length out.old }
-    ensures holds { front result out.new ≡ followed IllegalPayload (take start out.old) ((meaning half.now).reading payload.now) }
-    ensures ends { IfOk result (λ end. end ≡ start + (meaning half.now).fields) }
+    requires due { length payload.now ≡ (T.meaning half.now).octets }
+    requires room { start + (T.meaning half.now).fields ≤ length out.old }
+    ensures holds { front result out.new ≡ followed IllegalPayload (take start out.old) ((T.meaning half.now).reading payload.now) }
+    ensures ends { IfOk result (λ end. end ≡ start + (T.meaning half.now).fields) }
 {
     match half.read(payload, &mut out[start..]) {
         Ok(fields) => Ok(start + fields),
@@ -90,10 +90,10 @@ fn write_after<T: DatapointType>(
     out: &mut [u8],
     start: usize,
 ) -> Result<usize, Refusal>
-    requires due { length reading.now ≡ (meaning half.now).fields }
-    requires room { start + (meaning half.now).octets ≤ length out.old }
-    ensures holds { front result out.new ≡ followed IllegalReading (take start out.old) ((meaning half.now).payload reading.now) }
-    ensures ends { IfOk result (λ end. end ≡ start + (meaning half.now).octets) }
+    requires due { length reading.now ≡ (T.meaning half.now).fields }
+    requires room { start + (T.meaning half.now).octets ≤ length out.old }
+    ensures holds { front result out.new ≡ followed IllegalReading (take start out.old) ((T.meaning half.now).payload reading.now) }
+    ensures ends { IfOk result (λ end. end ≡ start + (T.meaning half.now).octets) }
 {
     match half.write(reading, &mut out[start..]) {
         Ok(octets) => Ok(start + octets),

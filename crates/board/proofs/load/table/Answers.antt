@@ -11,13 +11,13 @@ pub loop-at-init : goal.loop-at-init
 unfolding left empty
 loop-at-init g c = (refl, omega arith, refl)
 
-pub returns-in-default : goal.returns-in-default
-returns-in-default g c =
+pub returns-in_default : goal.returns-in_default
+returns-in_default g c =
     let types = g.B.Book.types c.args.book.now in
     let law = g.met.B.Book.lawful c.args.book.now in
     let text = drop c.loop-at.at c.args.text.now in
     let some : 0 < length text = omega (arith, length-drop c.loop-at.at c.args.text.now, c.loop-at-test.true) in
-    sym (left_broken types law c.loop-at.line c.loop-at.last text (map point_of c.loop-at.points) some c.in-default.ensures.line) ∙ c.loop-at.invariant.0
+    sym (left_broken types law c.loop-at.line c.loop-at.last text (map point_of c.loop-at.points) some c.in_default.ensures.line) ∙ c.loop-at.invariant.0
 
 pub returns-in-Err : goal.returns-in-Err
 returns-in-Err g c =

@@ -8,8 +8,8 @@ loop-octet-preserved c = let k = drop_more c.args.key.now c.loop-octet.octet-ind
 pub returns : goal.returns
 returns c = let k = drop_all c.loop-octet.octet-index c.args.key.now c.loop-octet-test.false in search rules
 
-pub returns-in-default : goal.returns-in-default
-returns-in-default c = let k = drop_more c.args.key.now c.loop-octet.octet-index 0 c.loop-octet-test.true in search rules
+pub returns-in_default : goal.returns-in_default
+returns-in_default c = let k = drop_more c.args.key.now c.loop-octet.octet-index 0 c.loop-octet-test.true in search rules
 
 pub returns-then-c-octet : goal.returns-then-c-octet
 returns-then-c-octet c = let k = drop_more c.args.key.now c.loop-octet.octet-index 0 c.loop-octet-test.true in search rules

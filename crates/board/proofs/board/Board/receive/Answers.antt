@@ -5,7 +5,7 @@ use Rattle.board.proofs.board.Board.receive.Goals as goal
 pub returns : goal.returns
 returns g c =
     let points = c.args.self.now.points in
-    let found = sym c.in-ok-at.ensures in
-    let low = index_low c.args.point c.in-ok-at.at found in
-    let within : c.in-ok-at.at < length points = search rules in
-    record { book = refl; step = changed_at points c.args.point c.in-ok-at.at c.index-self-at.result found within _ _ _ c.receive.ensures }
+    let found = sym c.in_ok-at.ensures in
+    let low = index_low c.args.point c.in_ok-at.at found in
+    let within : c.in_ok-at.at < length points = search rules in
+    record { book = refl; step = changed_at points c.args.point c.in_ok-at.at c.index-self-at.result found within _ _ _ c.receive.ensures }

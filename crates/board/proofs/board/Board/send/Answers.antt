@@ -9,9 +9,9 @@ pub returns : goal.returns
 returns g c =
     let points = c.args.self.now.points in
     let out = c.args.out.now in
-    let found = sym c.in-ok-at.ensures in
-    let low = index_low c.args.point c.in-ok-at.at found in
-    let within : c.in-ok-at.at < length points = search rules in
+    let found = sym c.in_ok-at.ensures in
+    let low = index_low c.args.point c.in_ok-at.at found in
+    let within : c.in_ok-at.at < length points = search rules in
     let sees = sending_out (g.B.Book.types c.args.self.now.book) in
-    looked_at points c.args.point c.in-ok-at.at c.index-points-at.result found within sees out _
+    looked_at points c.args.point c.in_ok-at.at c.index-points-at.result found within sees out _
     (c.send.ensures ∙ ap (λ (s : Point). sees (point_of s) out) c.index-points-at.is)

@@ -11,8 +11,8 @@ returns-then-n-lt10 t c =
     let d = decimal_digit c.args.n c.if-n-lt10.true in
     record { text = cc; len = omega (arith, ap length d) }
 
-pub push-digits-requires : goal.push-digits-requires
-push-digits-requires t c =
+pub push_digits-requires : goal.push_digits-requires
+push_digits-requires t c =
     let s = decimal_step c.args.n (omega arith) (search rules) in
     (search rules, omega (arith, simp length-append at (ap length s)))
 
@@ -25,6 +25,6 @@ pub returns : goal.returns
 returns t c =
     let s = decimal_step c.args.n (omega arith) (search rules) in
     record {
-      text = joined _ _ _ _ _ _ c.push-digits.ensures.text c.push-2.ensures.text s;
-      len = both_long _ _ _ _ _ _ c.push-digits.ensures.len c.push-2.ensures.len s;
+      text = joined _ _ _ _ _ _ c.push_digits.ensures.text c.push-2.ensures.text s;
+      len = both_long _ _ _ _ _ _ c.push_digits.ensures.len c.push-2.ensures.len s;
     }

@@ -5,8 +5,8 @@ use Rattle.listing.specs.Pages.{draft_text}
 use Rattle.listing.proofs.Tails.{none_written, tails_more, fields_written}
 use Rattle.listing.proofs.draft.Draft.push_fields.Goals as goal
 
-pub returns-in-default : goal.returns-in-default
-returns-in-default c = record { text = none_written (draft_text c.args.self.now) c.args.fields.now (search rules); most = omega arith }
+pub returns-in_default : goal.returns-in_default
+returns-in_default c = record { text = none_written (draft_text c.args.self.now) c.args.fields.now (search rules); most = omega arith }
 
 pub loop-field-preserved : goal.loop-field-preserved
 loop-field-preserved c =
@@ -26,7 +26,7 @@ returns c =
     let some : 0 < length fields = search rules in
     record {
       text =
-          fields_written (draft_text c.args.self.now) (draft_text c.push-field.new.self) (draft_text c.loop-field.self) (get_or fields 0 (pos 0)) rest fields c.loop-field.field-index
-          (first_rest fields (pos 0) some) (simp to_z-of_z at c.push-field.ensures.text) c.loop-field.invariant.0 c.loop-field-test.false;
+          fields_written (draft_text c.args.self.now) (draft_text c.push_field.new.self) (draft_text c.loop-field.self) (get_or fields 0 (pos 0)) rest fields c.loop-field.field-index
+          (first_rest fields (pos 0) some) (simp to_z-of_z at c.push_field.ensures.text) c.loop-field.invariant.0 c.loop-field-test.false;
       most = omega (arith, length-take (length fields - 1) (drop 1 fields), length-drop 1 fields);
     }

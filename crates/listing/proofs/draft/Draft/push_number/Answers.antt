@@ -7,6 +7,6 @@ use Rattle.listing.proofs.draft.Draft.push_number.Goals as goal
 pub returns : goal.returns
 returns c =
     record {
-      text = joined₃ (draft_text c.args.self.now) _ _ _ (decimal c.args.number.main) (codes ".") (show_sub c.args.number.sub) c.push-whole.ensures.text c.push.ensures.text c.push-sub.ensures.text;
+      text = joined₃ (draft_text c.args.self.now) _ _ _ (decimal c.args.number.main) (codes ".") (show_sub c.args.number.sub) c.push_whole.ensures.text c.push.ensures.text c.push_sub.ensures.text;
       most = omega arith;
     }
