@@ -13,8 +13,8 @@ loop-field-preserved c =
     let rest : List ℤ = take (length c.args.fields.now - 1) (drop 1 c.args.fields.now) in
     let i = c.loop-field.field-index in
     let fits : SFits w64 (get_or rest i (pos 0)) = search rules in (
-      tails_more (draft_text c.loop-field.self) (draft_text c.push-next.new.self) _ rest i c.loop-field-test.true
-          (simp to_z-of_z at c.push-next.ensures.text) c.loop-field.invariant.0,
+      tails_more (draft_text c.loop-field.self) (draft_text c.push_next.new.self) _ rest i c.loop-field-test.true
+          (simp to_z-of_z at c.push_next.ensures.text) c.loop-field.invariant.0,
       search rules,
     )
 
