@@ -6,7 +6,7 @@ use std::io::Write;
 // The octets in hexadecimal.
 pub fn octets(rt: &HostRuntime, payload: &[u8]) -> io::Result<()> {
     for octet in payload {
-        print!(rt, " {octet:02X}")?;
+        print!(rt; " {octet:02X}")?;
     }
     Ok(())
 }
@@ -15,7 +15,7 @@ pub fn octets(rt: &HostRuntime, payload: &[u8]) -> io::Result<()> {
 pub fn fields(rt: &HostRuntime, reading: &[i64]) -> io::Result<()> {
     let mut comma = "";
     for field in reading {
-        print!(rt, "{comma} {field}")?;
+        print!(rt; "{comma} {field}")?;
         comma = ",";
     }
     Ok(())
@@ -45,7 +45,7 @@ pub fn payload<T: DatapointType>(
     payload: &[u8],
 ) -> io::Result<()> {
     let mut reading = [0; 16];
-    print!(rt, "   Read as {name},")?;
+    print!(rt; "   Read as {name},")?;
     octets(rt, payload)?;
     let count = match datapoint_type.read(payload, &mut reading) {
         Ok(count) => count,
@@ -57,7 +57,7 @@ pub fn payload<T: DatapointType>(
     let Some(told) = reading.get(0..count) else {
         return Ok(());
     };
-    print!(rt, " gives")?;
+    print!(rt; " gives")?;
     fields(rt, told)?;
     proper(rt, datapoint_type, told)
 }
@@ -71,7 +71,7 @@ fn proper<T: DatapointType>(
     let mut out = [0; 14];
     if let Ok(count) = datapoint_type.write(reading, &mut out) {
         if let Some(sent) = out.get(0..count) {
-            print!(rt, " and goes out as")?;
+            print!(rt; " and goes out as")?;
             octets(rt, sent)?;
         }
     }

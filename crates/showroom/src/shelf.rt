@@ -15,11 +15,11 @@ fn payload<B: Book>(
     let main = number.main;
     let sub = number.sub;
     let mut reading = [0; 16];
-    print!(rt, "   As {main}.{sub:03},")?;
+    print!(rt; "   As {main}.{sub:03},")?;
     print::octets(rt, payload)?;
     match book.read(number, payload, &mut reading) {
         Ok(count) => {
-            print!(rt, " gives")?;
+            print!(rt; " gives")?;
             print::front(rt, &reading, count)?;
             println!(rt; ".")
         }

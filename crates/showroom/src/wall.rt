@@ -23,7 +23,7 @@ fn told<B: Book>(rt: &HostRuntime, board: &Board<B>, point: usize) -> io::Result
     let mut reading = [0; 16];
     if let Ok(telling) = board.read(point, &mut reading) {
         let mark = telling.mark;
-        print!(rt, "   Point {point} tells, {mark:?}:")?;
+        print!(rt; "   Point {point} tells, {mark:?}:")?;
         print::front(rt, &reading, telling.fields)?;
         println!(rt; ".")?;
     }
