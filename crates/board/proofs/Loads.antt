@@ -1,5 +1,5 @@
 -- Loading a text line by line. Assumes nothing.
-use Rattle.std.proofs.Common.{◌≡◌, ℕ, zero, suc, ◌+◌, ◌-◌, ◌<◌, ◌≤◌, Bool, true, false, eqb, ltb, leb, List, [], ◌∷◌, ◌++◌, map, length, drop, set, ℤ, Some, None, Ok, Err, Option, Result, sym, refl, ap, ◌∙◌, subst, arith, length-drop}
+use Rattle.std.proofs.Common.{◌≡◌, ℕ, zero, suc, ◌-◌, ◌<◌, ◌≤◌, Bool, true, false, ltb, leb, List, [], ◌∷◌, length, set, ℤ, Some, None, Ok, Err, Option, Result, sym, refl, ap, ◌∙◌, subst, arith}
 use Rattle.std.proofs.lemmas.Bool.{leb-false, ne_eqb, and_parts, leb-true}
 use Rattle.datapoint.specs.Meaning.{Meaning, Lawful}
 use Rattle.book.specs.declared.number.TypeNumber.{TypeNumber}
@@ -8,12 +8,11 @@ use Rattle.listing.specs.declared.line.Line.{Line}
 use Rattle.listing.specs.Row.{Row}
 use Rattle.listing.specs.Read.{Got, got, bad, read_row}
 use Rattle.listing.specs.Fields.{kept}
-use Rattle.listing.specs.Found.{found_as}
-use Rattle.listing.specs.Line.{Held, Said, held, held_fields, line_said, row_said, got_as}
+use Rattle.listing.specs.Line.{Said, held, held_fields, line_said, row_said, got_as}
 use Rattle.listing.proofs.Rows.{row_shorter}
 use Rattle.model.specs.Points.{Point}
-use Rattle.model.specs.Calls.{Answer, on_board, accepted, sized_or, legal_or}
-use Rattle.model.specs.Load.{Fault, accepted_some, accepted_if, placed_as, typed_as, above_or, on_board_or, said_by, taken, line_by, load_lines, loaded}
+use Rattle.model.specs.Calls.{Answer, on_board, accepted}
+use Rattle.model.specs.Load.{Fault, accepted_some, accepted_if, placed_as, typed_as, above_or, on_board_or, said_by, taken, line_by, load_lines}
 use Rattle.board.specs.Faults.{accepted_held, number_only, typed_held, held_by}
 
 -- only the number of a cause is told

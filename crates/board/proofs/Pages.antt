@@ -1,9 +1,9 @@
 -- The lines of a board, one point after the other. Assumes nothing.
-use Rattle.std.proofs.Common.{◌≡◌, ℕ, suc, ◌+◌, ◌<◌, ◌≤◌, Bool, true, List, [], ◌∷◌, ◌++◌, map, length, get_or, drop, sym, refl, ap, ◌∙◌, append_assoc, append-nil, arith}
+use Rattle.std.proofs.Common.{◌≡◌, ℕ, suc, ◌+◌, ◌<◌, ◌≤◌, Bool, true, List, ◌∷◌, ◌++◌, map, length, get_or, drop, sym, ap, ◌∙◌, append_assoc, append-nil, arith}
 use Rattle.std.proofs.lemmas.List.{drop_more, drop_all}
 use Rattle.std.proofs.lemmas.Bool.{le-leb}
 use Rattle.listing.specs.Pages.{added, with_line}
-use Rattle.model.specs.Points.{Point, show_point, show_from, list_of}
+use Rattle.model.specs.Points.{show_point, show_from}
 use Rattle.points.specs.declared.point.Point.{Point as Kept}
 use Rattle.points.specs.Model.{point_of}
 

@@ -1,9 +1,7 @@
 -- A point of the table that is looked at or changed. Assumes nothing.
-use Rattle.std.proofs.Common.{◌≡◌, ℕ, ◌-◌, ◌<◌, ◌≤◌, Bool, true, false, leb, List, map, length, get_or, set, Ok, Err, sym, refl, ap, ◌∙◌, arith}
-use lib.ListN.{length-map}
+use Rattle.std.proofs.Common.{◌≡◌, ℕ, ◌-◌, ◌<◌, Bool, true, leb, List, map, length, get_or, set, Ok, sym, ap, ◌∙◌, arith}
 use Rattle.std.proofs.lemmas.List.{map-set, get_or-map}
 use Rattle.std.proofs.lemmas.Bool.{and_parts, leb-true}
-use Rattle.datapoint.specs.declared.refusal.Refusal.{Refusal}
 use Rattle.model.specs.Points.{Point, unplaced}
 use Rattle.model.specs.Calls.{Answer, at_point, numbered, look_at, looked, on_board}
 use Rattle.points.specs.declared.point.Point.{Point as Kept}

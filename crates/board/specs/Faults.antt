@@ -1,21 +1,17 @@
 -- What load answers, and what it makes of a line as the code keeps it. Assumes nothing.
-use Rattle.std.specs.Prelude.{ℕ, Bool, true, false, List, [], map, ℤ, Some, None, Ok, Err, Option, Result, nat_lt}
+use Rattle.std.specs.Prelude.{ℕ, List, map, ℤ, Some, None, Ok, Err, Option, Result, nat_lt}
 use Rattle.datapoint.specs.declared.refusal.Refusal.{Refusal}
 use Rattle.datapoint.specs.declared.refusal.Refusal.TheVariants as refused
 use Rattle.datapoint.specs.Refusals.{told}
 use Rattle.datapoint.specs.Meaning.{Meaning}
-use Rattle.book.specs.declared.number.TypeNumber.{TypeNumber}
 use Rattle.book.specs.Types.{Types}
-use Rattle.listing.specs.declared.reading.Reading.{Reading}
-use Rattle.listing.specs.Fields.{fields_in}
 use Rattle.listing.specs.Line.{Held, missing, these, too_many, Said}
-use Rattle.model.specs.Points.{Point, placed}
+use Rattle.model.specs.Points.{Point}
 use Rattle.model.specs.Calls.{Answer, on_board, accepted}
 use Rattle.model.specs.Load as load
 use Rattle.model.specs.Load.{accepted_some, placed_as, above_or, on_board_or}
-use Rattle.points.specs.declared.placed.Placed.{Placed}
 use Rattle.points.specs.declared.point.Point.{Point as Kept}
-use Rattle.points.specs.Model.{placed_point, point_of}
+use Rattle.points.specs.Model.{point_of}
 use Rattle.board.specs.declared.fault.Cause.{Cause}
 use Rattle.board.specs.declared.fault.Cause.TheVariants.{BrokenLine, NoSuchPoint, NotAbove, UnknownType, WrongLength, IllegalReading}
 use Rattle.board.specs.declared.fault.Fault.{Fault}

@@ -1,5 +1,5 @@
 -- A date of the years 1990 to 2089. Assumes nothing.
-use Rattle.std.specs.Prelude.{ℕ, ◌+◌, ◌%◌, Bool, cond, ◌&&◌, List, [], ◌∷◌, pos, Some, nat_le, nat_lt}
+use Rattle.std.specs.Prelude.{ℕ, ◌+◌, ◌%◌, cond, ◌&&◌, [], ◌∷◌, pos, Some, nat_le, nat_lt}
 use Rattle.datapoint.specs.Meaning.{Meaning}
 use Rattle.datapoint.specs.Shapes.{when}
 use Rattle.clock.specs.Fields.{next, field, end}

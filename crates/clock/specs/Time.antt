@@ -1,5 +1,5 @@
 -- A weekday with a time of day. Assumes nothing.
-use Rattle.std.specs.Prelude.{ℕ, ◌+◌, ◌*◌, ◌/◌, ◌%◌, Bool, ◌&&◌, List, [], ◌∷◌, pos, nat_lt}
+use Rattle.std.specs.Prelude.{ℕ, ◌+◌, ◌*◌, ◌/◌, ◌%◌, Bool, ◌&&◌, [], ◌∷◌, pos, nat_lt}
 use Rattle.datapoint.specs.Meaning.{Meaning}
 use Rattle.datapoint.specs.Shapes.{when}
 use Rattle.clock.specs.Fields.{next, field, end}

@@ -1,5 +1,5 @@
 -- What a type's calls deliver: the answer, and the caller's buffer afterwards. Assumes nothing.
-use Rattle.std.specs.Prelude.{ℕ, Bool, true, false, List, [], ◌∷◌, ◌++◌, length, drop, ℤ, Some, None, Ok, Err, Option, Result, ◌==◌, nat_le}
+use Rattle.std.specs.Prelude.{ℕ, Bool, true, false, List, ◌++◌, length, drop, ℤ, Some, None, Ok, Err, Option, Result, ◌==◌, nat_le}
 use Rattle.datapoint.specs.declared.datapoint_type.Counts.{Counts}
 use Rattle.datapoint.specs.declared.refusal.Refusal.{Refusal}
 use Rattle.datapoint.specs.declared.refusal.Refusal.TheVariants.{WrongLength, IllegalPayload, IllegalReading, ShortBuffer}

@@ -1,5 +1,5 @@
 -- The exponents that hold a reading. Assumes nothing.
-use Rattle.std.specs.Prelude.{◌≡◌, ℕ, zero, suc, ◌*◌, ◌/◌, ◌^◌, ◌<◌, true, ◌&&◌, ℤ, pos, negsuc, neg_ℤ, ◌≤ℤ◌, Some, None, Option, int_div, int_le, refl}
+use Rattle.std.specs.Prelude.{◌≡◌, ℕ, zero, suc, ◌*◌, ◌/◌, ◌^◌, ◌<◌, true, ◌&&◌, ℤ, pos, negsuc, neg_ℤ, ◌≤ℤ◌, Some, Option, int_div, int_le, refl}
 use Rattle.std.proofs.Common.{sym, ap, ◌∙◌, arith, pow_mono}
 use Rattle.std.proofs.Math.Nat.{zero-div}
 use Rattle.std.proofs.lemmas.Int.{ints}

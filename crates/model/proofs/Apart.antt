@@ -1,20 +1,17 @@
 -- Two good boards with unequal lists are told apart at one point. Assumes nothing.
-use Rattle.std.proofs.Common.{◌≡◌, ℕ, zero, suc, ◌+◌, ◌-◌, ◌<◌, ◌≤◌, Bool, true, false, ◌&&◌, leb, ◌⊎◌, List, [], ◌∷◌, ◌++◌, length, get_or, take, drop, set, ℤ, Some, None, Ok, Err, Option, Result, sym, refl, ap, ◌∙◌, subst, inl, inr, ⊎_elim, arith}
+use Rattle.std.proofs.Common.{◌≡◌, ℕ, suc, ◌-◌, ◌<◌, ◌≤◌, Bool, ◌⊎◌, List, [], ◌∷◌, ◌++◌, length, get_or, take, drop, set, ℤ, Some, None, Ok, Err, Option, Result, sym, refl, ap, ◌∙◌, inl, inr, ⊎_elim, arith}
 use mathlib.Core.List.{List-discrete}
 use native.Mathlib.Decide.{ℕ_discrete}
 use lib.IntN.{ℤ_discrete}
 use Rattle.std.proofs.lemmas.List.{take_at, get_or-set_same}
 use Rattle.std.proofs.lemmas.Bool.{le-leb}
-use Rattle.std.specs.List.{AllByRecursion as All}
-use Rattle.datapoint.specs.Meaning.{Meaning, Lawful}
-use Rattle.datapoint.specs.Calls.{Outcome, delivered, fitting}
+use Rattle.datapoint.specs.Calls.{delivered, fitting}
 use Rattle.book.specs.declared.number.TypeNumber.{TypeNumber}
 use Rattle.book.specs.Types.{Types, LawfulTypes}
 use Rattle.model.specs.Points.{Point, unplaced, placed, show_point, show_from, list_of}
 use Rattle.model.specs.Calls.{Answer, Told, at_point, numbered, reading_out, releasing, marked, look_at, looked}
-use Rattle.model.specs.Series.{Call, Read, Release, Seen, Reply, tells, counts, loads, seen}
+use Rattle.model.specs.Series.{Seen, Reply, tells, counts, loads}
 use Rattle.model.specs.Theorem.{ReadTells, ReleaseTells}
-use Rattle.model.specs.Sound.{LegalIn}
 use Rattle.model.proofs.Good.{GoodPlaced, Good, GoodBoard, good_at, releasing_good}
 use Rattle.model.proofs.Lists.{legal_fields, on_board_true}
 

@@ -1,5 +1,5 @@
 -- What every call keeps true of each point. Assumes nothing.
-use Rattle.std.proofs.Common.{◌≡◌, ℕ, zero, suc, ◌-◌, ◌≤◌, Bool, true, false, eqb, List, [], ◌∷◌, length, get_or, set, ℤ, is_some, Some, None, Ok, Err, Option, Result, sym, refl, ap, ◌∙◌, subst, arith, length-set}
+use Rattle.std.proofs.Common.{◌≡◌, ℕ, zero, suc, ◌-◌, ◌≤◌, Bool, true, false, eqb, List, [], ◌∷◌, length, get_or, ℤ, is_some, Some, None, Ok, Err, Option, refl, ◌∙◌, subst, arith, length-set}
 use Rattle.std.proofs.ByRecursion.{All-set}
 use Rattle.std.specs.List.{AllByRecursion as All}
 use Rattle.datapoint.specs.declared.refusal.Refusal.{Refusal}
@@ -9,7 +9,7 @@ use Rattle.book.specs.declared.number.TypeNumber.{TypeNumber}
 use Rattle.book.specs.Types.{Types, LawfulTypes}
 use Rattle.model.specs.Points.{Point, unplaced, placed}
 use Rattle.model.specs.Calls.{Answer, placing, place_as, removing, receiving, setting, overriding, releasing, become_normal, become_forced, understood, accepted, sized_or, legal_or, kept, at_point, numbered, on_board}
-use Rattle.model.specs.Sound.{LegalIn, Stored}
+use Rattle.model.specs.Sound.{LegalIn}
 
 -- a placed point: its type is the book's, its readings are legal, and its number can be written
 pub record GoodPlaced (types : Types) (n : TypeNumber) (normal forced : Option (List ℤ)) : Type 0 where

@@ -1,9 +1,9 @@
 -- A good board's list loads as that board, and what loads is the list of the loaded board. Assumes nothing.
-use Rattle.std.proofs.Common.{◌≡◌, ℕ, zero, suc, ◌+◌, ◌-◌, ◌<◌, ◌≤◌, Bool, true, false, ◌&&◌, eqb, ltb, leb, List, [], ◌∷◌, ◌++◌, length, get_or, set, replicate, ℤ, is_some, Some, None, Ok, Err, Option, Result, sym, refl, ap, ◌∙◌, subst, append_assoc, append-nil, arith, length-append}
+use Rattle.std.proofs.Common.{◌≡◌, ℕ, zero, suc, ◌+◌, ◌-◌, ◌<◌, ◌≤◌, Bool, true, ltb, leb, List, [], ◌∷◌, ◌++◌, length, set, replicate, ℤ, is_some, Some, None, Ok, Err, Option, Result, sym, refl, ap, ◌∙◌, subst, append_assoc, append-nil, arith, length-append}
 use Rattle.std.proofs.lemmas.List.{set_at, length-replicate, replicate-append-replicate}
 use Rattle.std.proofs.lemmas.Bool.{lt-ltb, le-leb, eq-eqb, ltb-true, leb-true, and_parts}
 use Rattle.std.specs.List.{AllByRecursion as All}
-use Rattle.datapoint.specs.Meaning.{Meaning, Lawful, Octets, InRange}
+use Rattle.datapoint.specs.Meaning.{Meaning, Lawful}
 use Rattle.book.specs.declared.number.TypeNumber.{TypeNumber}
 use Rattle.book.specs.Types.{Types, LawfulTypes}
 use Rattle.listing.specs.Row.{Row, Sayable, Writable}
@@ -12,7 +12,7 @@ use Rattle.listing.specs.Read.{Got, got, bad, read_row}
 use Rattle.listing.proofs.Rows.{row_back, row_only}
 use Rattle.model.specs.Points.{Point, unplaced, placed, empty, show_point, show_from, list_of}
 use Rattle.model.specs.Calls.{Answer, on_board, accepted}
-use Rattle.model.specs.Load.{accepted_some, accepted_if, on_board_or, above_or, placed_as, typed_as, said_by, Fault, taken, line_by, load_lines, loaded}
+use Rattle.model.specs.Load.{accepted_some, accepted_if, on_board_or, above_or, placed_as, typed_as, said_by, taken, line_by, load_lines, loaded}
 use Rattle.model.specs.Sound.{LegalIn}
 use Rattle.model.proofs.Good.{GoodPlaced, Good, GoodBoard, accepted_legal}
 

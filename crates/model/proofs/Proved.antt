@@ -1,5 +1,5 @@
 -- The list theorem and the soundness of every reached board, for every book of lawful types. Assumes nothing.
-use Rattle.std.proofs.Common.{◌≡◌, ℕ, suc, ◌+◌, ◌*◌, ◌≤◌, Bool, true, false, List, [], ◌∷◌, ◌++◌, length, drop, replicate, Ok, Err, Result, sym, refl, ap, ◌∙◌, subst, arith, length-append}
+use Rattle.std.proofs.Common.{◌≡◌, ℕ, ◌+◌, ◌≤◌, List, [], ◌∷◌, length, drop, replicate, Ok, Err, Result, sym, refl, ap, ◌∙◌, arith}
 use Rattle.std.proofs.lemmas.List.{length-replicate}
 use Rattle.std.proofs.ByRecursion.{All-weaker}
 use Rattle.std.specs.List.{AllByRecursion as All}
@@ -7,7 +7,7 @@ use Rattle.book.specs.Types.{Types, LawfulTypes}
 use Rattle.model.specs.Points.{Point, unplaced, placed, empty, list_of}
 use Rattle.model.specs.Calls.{Answer}
 use Rattle.model.specs.Load.{Fault, loaded, loading, replaced}
-use Rattle.model.specs.Series.{Call, Place, Remove, Receive, Set, Override, Release, Read, Send, ListOut, Load, Passable, Seen, Reply, counts, tells, loads, seen, after, Reached}
+use Rattle.model.specs.Series.{Call, Place, Remove, Receive, Set, Override, Release, Read, Send, ListOut, Load, Passable, Seen, Reply, counts, tells, loads, seen, after}
 use Rattle.model.specs.Sound.{Stored, Soundness}
 use Rattle.model.specs.Theorem.{Alike, Builds, ListOfBuilt, Loads, ListTheorem}
 use Rattle.model.proofs.Good.{Good, GoodBoard}

@@ -1,18 +1,18 @@
 -- Every board that a series reaches is good, and every good board is reached by place, set and override. Assumes nothing.
-use Rattle.std.proofs.Common.{◌≡◌, ℕ, zero, suc, ◌+◌, ◌-◌, ◌<◌, ◌≤◌, Bool, true, false, ◌&&◌, List, [], ◌∷◌, ◌++◌, length, get_or, set, replicate, ℤ, Some, None, Ok, Err, Option, Result, sym, refl, ap, ◌∙◌, subst, append_assoc, append-nil, arith, length-append}
-use Rattle.std.proofs.lemmas.List.{set_at, get_or_at, length-replicate}
+use Rattle.std.proofs.Common.{◌≡◌, ℕ, zero, suc, ◌+◌, ◌-◌, ◌<◌, Bool, List, [], ◌∷◌, ◌++◌, length, set, replicate, ℤ, Some, None, Ok, Err, Option, Result, sym, refl, ap, ◌∙◌, subst, append_assoc, arith, length-append}
+use Rattle.std.proofs.lemmas.List.{set_at, get_or_at}
 use Rattle.std.proofs.ByRecursion.{All-append}
 use Rattle.std.specs.List.{AllByRecursion as All}
-use Rattle.datapoint.specs.Meaning.{Meaning, Lawful, Octets, InRange}
+use Rattle.datapoint.specs.Meaning.{Meaning}
 use Rattle.book.specs.declared.number.TypeNumber.{TypeNumber}
 use Rattle.book.specs.Types.{Types, LawfulTypes}
 use Rattle.model.specs.Points.{Point, unplaced, placed, empty}
 use Rattle.model.specs.Calls.{Answer, at_point, numbered, placing, place_as, removing, receiving, setting, overriding, releasing, become_normal, become_forced, accepted}
-use Rattle.model.specs.Load.{Fault, loaded, loading, replaced}
-use Rattle.model.specs.Series.{Call, Place, Remove, Receive, Set, Override, Release, Read, Send, ListOut, Load, Passable, perform, seen, after, Reached}
+use Rattle.model.specs.Load.{Fault, loaded, replaced}
+use Rattle.model.specs.Series.{Call, Place, Remove, Receive, Set, Override, Release, Read, Send, ListOut, Load, Passable, perform, after, Reached}
 use Rattle.model.specs.Theorem.{Builds}
 use Rattle.model.specs.Sound.{LegalIn}
-use Rattle.model.proofs.Good.{GoodPlaced, Good, GoodBoard, good_changed, placing_good, removing_good, receiving_good, setting_good, overriding_good, releasing_good}
+use Rattle.model.proofs.Good.{Good, GoodBoard, good_changed, placing_good, removing_good, receiving_good, setting_good, overriding_good, releasing_good}
 use Rattle.model.proofs.Lists.{loaded_lists, legal_accepted, on_board_true}
 
 good_none : (types : Types) (n : ℕ) → All (Good types) (replicate n unplaced)

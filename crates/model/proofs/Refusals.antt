@@ -1,24 +1,23 @@
 -- With which numbers the calls are refused on a good board, and how long its list is. Assumes nothing.
-use Rattle.std.proofs.Common.{◌≡◌, ℕ, zero, suc, ◌+◌, ◌-◌, ◌*◌, ◌≤◌, Bool, true, false, eqb, ltb, leb, ◌⊎◌, List, [], ◌∷◌, ◌++◌, length, get_or, ℤ, Some, None, Ok, Err, Option, Result, sym, refl, ap, ◌∙◌, subst, inl, inr, arith, length-append}
+use Rattle.std.proofs.Common.{◌≡◌, ℕ, zero, suc, ◌+◌, ◌-◌, ◌*◌, ◌≤◌, Bool, true, false, eqb, ltb, leb, List, [], ◌∷◌, length, get_or, ℤ, Some, None, Ok, Err, Option, Result, sym, refl, ap, ◌∙◌, subst, inl, inr, arith, length-append}
 use Rattle.std.proofs.lemmas.Bool.{eq-eqb}
 use Rattle.std.specs.List.{AllByRecursion as All}
 use Rattle.datapoint.specs.declared.refusal.Refusal.{Refusal}
 use Rattle.datapoint.specs.declared.refusal.Refusal.TheVariants.{IllegalPayload, IllegalReading}
 use Rattle.datapoint.specs.Refusals.{told}
-use Rattle.datapoint.specs.Meaning.{Meaning, Lawful}
-use Rattle.datapoint.specs.Calls.{Outcome, delivered, fitting, delivered_or, write_out}
+use Rattle.datapoint.specs.Meaning.{Meaning}
+use Rattle.datapoint.specs.Calls.{Outcome, delivered, fitting, write_out}
 use Rattle.book.specs.declared.number.TypeNumber.{TypeNumber}
 use Rattle.book.specs.Types.{Types, LawfulTypes, write_in}
-use Rattle.listing.specs.Row.{Row, Sayable, Few}
-use Rattle.listing.specs.Show.{show_row}
+use Rattle.listing.specs.Row.{Row, Few}
 use Rattle.listing.specs.Read.{Got, got, bad, read_row}
 use Rattle.listing.proofs.Rows.{row_length}
-use Rattle.model.specs.Points.{Point, unplaced, placed, empty, telling, show_point, show_from, list_of}
-use Rattle.model.specs.Calls.{Answer, Told, at_point, numbered, on_board, look_at, looked, placing, place_as, removing, receiving, setting, overriding, releasing, become_normal, become_forced, understood, accepted, sized_or, legal_or, kept, marked, reading_out, sending_out, send_told, listing_out}
+use Rattle.model.specs.Points.{Point, unplaced, placed, empty, show_point, show_from, list_of}
+use Rattle.model.specs.Calls.{Answer, Told, at_point, numbered, on_board, look_at, looked, placing, place_as, removing, receiving, setting, overriding, releasing, become_normal, become_forced, understood, accepted, sized_or, legal_or, kept, marked, reading_out, sending_out, listing_out}
 use Rattle.model.specs.Load.{Fault, accepted_some, accepted_if, placed_as, typed_as, above_or, on_board_or, said_by, taken, line_by, load_lines, loaded, replaced}
-use Rattle.model.specs.Series.{Call, Place, Remove, Receive, Set, Override, Release, Read, Send, ListOut, Load, Passable, Reply, counts, tells, loads, perform}
+use Rattle.model.specs.Series.{Call, Place, Remove, Receive, Set, Override, Release, Read, Send, ListOut, Load, Passable, counts, tells, loads, perform}
 use Rattle.model.specs.Sound.{LegalIn, refusals, OneOf, RefusedBy}
-use Rattle.model.proofs.Good.{GoodPlaced, Good, GoodBoard, good_at}
+use Rattle.model.proofs.Good.{Good, GoodBoard, good_at}
 use Rattle.model.proofs.Lists.{legal_fields, good_sayable, proper}
 
 -- an answer is granted, or refused with one of these numbers

@@ -1,5 +1,5 @@
 -- What each of the ten calls does: its answer, the caller's buffer and the board afterwards. Assumes nothing.
-use Rattle.std.specs.Prelude.{ℕ, ◌-◌, Bool, true, false, ◌&&◌, List, [], ◌∷◌, length, ℤ, Some, None, Ok, Err, Option, Result, ◌==◌, nat_le, slice_index_or, slice_set}
+use Rattle.std.specs.Prelude.{ℕ, ◌-◌, Bool, true, false, ◌&&◌, List, length, ℤ, Some, None, Ok, Err, Option, Result, ◌==◌, nat_le, slice_index_or, slice_set}
 use Rattle.datapoint.specs.declared.refusal.Refusal.{Refusal}
 use Rattle.datapoint.specs.declared.refusal.Refusal.TheVariants.{NoSuchPoint, AlreadyPlaced, NotPlaced, UnknownType, Overridden, NotOverridden, Silent, WrongLength, IllegalPayload, IllegalReading}
 use Rattle.datapoint.specs.Refusals.{told}

@@ -1,7 +1,6 @@
 -- What a board holds, and how it is listed. Assumes nothing.
 use Rattle.std.specs.Prelude.{ℕ, suc, List, [], ◌∷◌, ◌++◌, replicate, ℤ, Some, None, Option}
 use Rattle.book.specs.declared.number.TypeNumber.{TypeNumber}
-use Rattle.listing.specs.Row.{Row}
 use Rattle.listing.specs.Show.{show_row}
 
 -- a point: unplaced, or with a type number, perhaps a normal reading and perhaps a forced reading

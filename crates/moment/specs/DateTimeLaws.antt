@@ -1,5 +1,5 @@
 -- The laws of the date and time. Assumes nothing.
-use Rattle.std.specs.Prelude.{◌≡◌, ℕ, ◌+◌, ◌*◌, ◌/◌, ◌%◌, ◌<◌, List, ◌++◌, length, take, drop, ℤ, pos, is_some, Some, None, Option, refl}
+use Rattle.std.specs.Prelude.{◌≡◌, ℕ, ◌+◌, ◌*◌, ◌/◌, ◌%◌, ◌<◌, List, ◌++◌, length, take, drop, ℤ, is_some, Some, Option, refl}
 use Rattle.std.proofs.Common.{sym, ap, ap₂, ◌∙◌, arith}
 use Rattle.std.proofs.ByRecursion.{All-append}
 use Rattle.std.proofs.lemmas.List.{drop-drop, take-append-drop}
@@ -11,7 +11,7 @@ use Rattle.moment.specs.declared.moment.Moment.{Moment}
 use Rattle.moment.specs.declared.parts.DatePart.{DatePart}
 use Rattle.moment.specs.declared.parts.TimePart.{TimePart}
 use Rattle.clock.specs.Fields.{◌>>=◌}
-use Rattle.moment.specs.Flags.{flags_in, flags_of, flags_octet, flags_octets, flags_fields}
+use Rattle.moment.specs.Flags.{flags_in, flags_of, flags_octets, flags_fields}
 use Rattle.moment.specs.Voidable.{date_in, date_of, date_octets, date_fields, time_in, time_of, time_octets, time_fields}
 use Rattle.moment.specs.DateTime.{moment_in, moment_of, moment_octets, moment_fields, date_time}
 use Rattle.clock.specs.Taken.{by_next, by_end, by_bind, by_some, by_mapped}

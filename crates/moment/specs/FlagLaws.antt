@@ -1,5 +1,5 @@
 -- The laws of the flags of a date and time. Assumes nothing.
-use Rattle.std.specs.Prelude.{◌≡◌, ℕ, ◌*◌, ◌/◌, ◌%◌, ◌^◌, ◌<◌, ◌≤◌, Bool, true, false, not, ◌&&◌, List, [], ◌∷◌, ℤ, pos, Some, nat_eq, refl}
+use Rattle.std.specs.Prelude.{◌≡◌, ℕ, ◌*◌, ◌/◌, ◌%◌, ◌^◌, ◌≤◌, Bool, true, false, not, ◌&&◌, List, [], ◌∷◌, ℤ, pos, Some, nat_eq, refl}
 use Rattle.std.proofs.Common.{ap, ap₂, ◌∙◌, arith}
 use Rattle.std.proofs.lemmas.Bool.{eq-eqb}
 use Rattle.std.specs.List.{AllByRecursion as All}
@@ -9,7 +9,7 @@ use Rattle.moment.specs.declared.flags.Voids.{Voids}
 use Rattle.moment.specs.declared.flags.Workday.{Workday}
 use Rattle.moment.specs.declared.flags.Workday.TheVariants.{Untold, Free, Working}
 use Rattle.moment.specs.Bits.{bit, digit}
-use Rattle.moment.specs.Flags.{flag_of, workday_told, workday_of, working, untold, voids_in, voids_of, flags_in, flags_of, flags_octet, flags_octets, flags_fields}
+use Rattle.moment.specs.Flags.{flag_of, workday_told, workday_of, working, untold, voids_of, flags_in, flags_of, flags_octet, flags_octets, flags_fields}
 use Rattle.clock.specs.Taken.{by_next, by_end, by_when, by_bind, by_some}
 use Rattle.moment.specs.FieldLaws.{in_range, flag_was, flag_back}
 

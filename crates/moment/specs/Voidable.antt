@@ -1,5 +1,5 @@
 -- A date and a time, each of which may be void. Assumes nothing.
-use Rattle.std.specs.Prelude.{ℕ, ◌+◌, ◌-◌, ◌*◌, ◌/◌, ◌%◌, Bool, cond, ◌&&◌, ◌||◌, List, [], ◌∷◌, ℤ, pos, Some, None, Option, ◌==◌, nat_le, nat_lt}
+use Rattle.std.specs.Prelude.{ℕ, ◌+◌, ◌-◌, ◌*◌, ◌%◌, Bool, cond, ◌&&◌, ◌||◌, List, [], ◌∷◌, ℤ, pos, Some, None, Option, ◌==◌, nat_le, nat_lt}
 use Rattle.datapoint.specs.Shapes.{when, natural}
 use Rattle.moment.specs.declared.flags.Voids.{Voids}
 use Rattle.moment.specs.declared.parts.DatePart.{DatePart}

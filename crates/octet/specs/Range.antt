@@ -1,5 +1,5 @@
 -- One octet from 0 to a highest value. Assumes nothing.
-use Rattle.std.specs.Prelude.{List, [], ◌∷◌, ℕ, leb, pos}
+use Rattle.std.specs.Prelude.{[], ◌∷◌, ℕ, leb, pos}
 use Rattle.datapoint.specs.Meaning.{Meaning}
 use Rattle.datapoint.specs.Shapes.{when, one, natural}
 

@@ -1,5 +1,5 @@
 -- A scene number with one flag bit. Assumes nothing.
-use Rattle.std.specs.Prelude.{◌&&◌, cond, List, [], ◌∷◌, ℕ, ◌+◌, ◌*◌, ◌/◌, ◌%◌, leb, ltb, eqb, pos}
+use Rattle.std.specs.Prelude.{◌&&◌, cond, [], ◌∷◌, ℕ, ◌+◌, ◌*◌, ◌/◌, ◌%◌, leb, ltb, eqb, pos}
 use Rattle.datapoint.specs.Meaning.{Meaning}
 use Rattle.datapoint.specs.Shapes.{when, one, two, natural}
 use Rattle.octet.specs.declared.scene.Flag.{Flag}

@@ -1,5 +1,5 @@
 -- A direction with a step code. Assumes nothing.
-use Rattle.std.specs.Prelude.{◌&&◌, ◌||◌, cond, List, [], ◌∷◌, ℕ, ◌+◌, ◌*◌, ◌/◌, ◌%◌, leb, ltb, eqb, pos}
+use Rattle.std.specs.Prelude.{◌&&◌, cond, [], ◌∷◌, ◌+◌, ◌*◌, ◌/◌, ◌%◌, leb, ltb, eqb, pos}
 use Rattle.datapoint.specs.Meaning.{Meaning}
 use Rattle.datapoint.specs.Shapes.{when, one, two, natural}
 

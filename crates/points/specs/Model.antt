@@ -1,5 +1,5 @@
 -- What the board's own records mean. Assumes nothing.
-use Rattle.std.specs.Prelude.{ℕ, List, ℤ, Some, None, Ok, Err, Option, Result}
+use Rattle.std.specs.Prelude.{List, ℤ, Ok, Err, Result}
 use Rattle.datapoint.specs.declared.refusal.Refusal.{Refusal}
 use Rattle.datapoint.specs.Refusals.{told}
 use Rattle.listing.specs.declared.reading.Reading.{Reading}

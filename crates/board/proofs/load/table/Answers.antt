@@ -1,6 +1,6 @@
-use Rattle.std.proofs.Common.{◌≡◌, ℕ, suc, ◌+◌, ◌-◌, ◌<◌, ◌≤◌, List, map, length, drop, set, sym, refl, ap, ◌∙◌, arith, length-drop, length-set}
+use Rattle.std.proofs.Common.{◌≡◌, ℕ, suc, ◌+◌, ◌-◌, ◌<◌, map, length, drop, set, sym, refl, ap, ◌∙◌, arith, length-drop, length-set}
 use Rattle.std.proofs.lemmas.List.{map-set}
-use Rattle.model.specs.Points.{Point, empty}
+use Rattle.model.specs.Points.{empty}
 use Rattle.points.specs.declared.point.Point.TheVariants.{Placed}
 use Rattle.points.specs.Model.{point_of, placed_point}
 use Rattle.board.specs.Faults.{cause_number}

@@ -1,4 +1,4 @@
-use Rattle.std.proofs.Common.{◌≡◌, Some, None, sym, ap, ◌∙◌, w64, rules}
+use Rattle.std.proofs.Common.{Some, None, ap, ◌∙◌, w64, rules}
 use Rattle.std.proofs.lemmas.Int.{to_z-of_z}
 use Rattle.float.specs.Exponents.{smallest_is}
 use Rattle.float.proofs.two_octets.smallest.Goals as goal

@@ -1,4 +1,3 @@
-use Rattle.moment.specs.DateTime.{moment_fields}
 use Rattle.moment.proofs.moment.Moment.fields.Goals as goal
 
 pub returns : goal.returns

@@ -1,4 +1,3 @@
-use Rattle.moment.specs.DateTime.{moment_octets}
 use Rattle.moment.proofs.moment.Moment.octets.Goals as goal
 
 pub returns : goal.returns
