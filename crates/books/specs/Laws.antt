@@ -1,7 +1,7 @@
 -- The types of both books are lawful. Assumes nothing.
 use Rattle.std.specs.Prelude.{◌≡◌, ℕ, Bool, true, false, List, [], ◌∷◌, pos, negsuc, Some, None, ◌≢◌}
 use Rattle.std.proofs.Common.{arith, lit<}
-use Rattle.std.specs.List.{AllByRecursion as All}
+use Rattle.std.specs.List.{AllByRecursion}
 use Rattle.datapoint.specs.Meaning.{Meaning, Lawful}
 use Rattle.datapoint.specs.Shapes.{when}
 use Rattle.book.specs.Types.{LawfulTypes}
@@ -14,7 +14,7 @@ use Rattle.whole.specs.declared.whole.Width.{Width}
 use Rattle.whole.specs.declared.whole.Width.TheVariants.{One, Two, Four}
 use Rattle.whole.specs.declared.whole.Sign.TheVariants.{Unsigned, TwosComplement}
 use Rattle.whole.specs.Octets.{whole_lawful}
-use Rattle.float.specs.Laws.{lawful as float_Lawful}
+use Rattle.float.specs.Laws.{lawful as float_lawful}
 use Rattle.text.specs.Laws.{lawful as text_lawful}
 use Rattle.clock.specs.TimeLaws.{lawful as time_lawful}
 use Rattle.clock.specs.DateLaws.{lawful as date_lawful}
@@ -34,7 +34,7 @@ standard_lawful (Controlled t) = controlled_lawful
 standard_lawful (Stepped t) = stepped_lawful
 standard_lawful (FlaggedScene t) = flagged_lawful t.flag
 standard_lawful (Whole t) = whole_lawful t.width t.sign
-standard_lawful (Float t) = float_Lawful t.lowest
+standard_lawful (Float t) = float_lawful t.lowest
 standard_lawful (TimeOfDay t) = time_lawful
 standard_lawful (DateOnly t) = date_lawful
 standard_lawful (DateAndTime t) = date_time_lawful
@@ -52,7 +52,7 @@ when_lawful true a m l h = let same : a ≡ m = cc in rw (← same) l
 when_lawful false a m l h = absurd (never m h)
 
 -- a table of lawful types is a lawful book
-in_rows_lawful : (rs : List Row) → All (λ r. Lawful r.meaning) rs → LawfulTypes (in_rows rs)
+in_rows_lawful : (rs : List Row) → AllByRecursion (λ r. Lawful r.meaning) rs → LawfulTypes (in_rows rs)
 in_rows_lawful [] ls n m h = absurd (never m h)
 in_rows_lawful (r ∷ rest) ls n m h = bound_lawful {a = in_row r} {b = in_rows rest} (λ n m. when_lawful _ _ m ls.0) (in_rows_lawful rest ls.1) n m h
 
@@ -81,9 +81,9 @@ general_lawful =
     signed One and
     unsigned Two and
     signed Two and
-    float_Lawful (negsuc 27299) and
-    float_Lawful (negsuc 67108863) and
-    float_Lawful (pos 0) and
+    float_lawful (negsuc 27299) and
+    float_lawful (negsuc 67108863) and
+    float_lawful (pos 0) and
     time_lawful and
     date_lawful and
     unsigned Four and

@@ -1,6 +1,6 @@
 -- The laws of a meaning from what holds of each reading and of each writing. Assumes nothing.
 use Rattle.std.specs.Prelude.{◌≡◌, ℕ, ◌≤◌, true, List, length, ℤ, is_some, Some}
-use Rattle.std.specs.List.{AllByRecursion as All}
+use Rattle.std.specs.List.{AllByRecursion}
 use Rattle.datapoint.specs.Meaning.{Meaning, Lawful, Octets, InRange}
 
 -- how many there are
@@ -14,7 +14,7 @@ pub record Few (m : Meaning) : Type 0 where
 pub record Reads (m : Meaning) (p : List ℕ) (xs : List ℤ) : Type 0 where
   pub sized : length p ≡ m.octets
   pub counted : length xs ≡ m.fields
-  pub ranged : All InRange xs
+  pub ranged : AllByRecursion InRange xs
   pub legal : is_some (m.payload xs) ≡ true
 
 -- xs is written as p

@@ -1,6 +1,6 @@
 -- What a datapoint type means, and the laws of every meaning. Assumes nothing.
 use Rattle.std.specs.Prelude.{◌≡◌, ℕ, ◌<◌, ◌≤◌, true, List, length, ℤ, pos, negsuc, ◌≤ℤ◌, is_some, Some, Option}
-use Rattle.std.specs.List.{AllByRecursion as All}
+use Rattle.std.specs.List.{AllByRecursion}
 
 pub record Meaning : Type 0 where
   -- how many octets a payload has, and how many fields a reading
@@ -13,7 +13,7 @@ pub record Meaning : Type 0 where
 
 -- a payload is made of octets
 abbrev pub Octets : List ℕ → Type 0
-Octets p = All (λ b. b < 256) p
+Octets p = AllByRecursion (λ b. b < 256) p
 
 -- a field lies from -2,147,483,648 to 4,294,967,295
 abbrev pub InRange : ℤ → Type 0
@@ -29,7 +29,7 @@ pub record Lawful (m : Meaning) : Type 0 where
   pub sized : (p : List ℕ) (xs : List ℤ) → Octets p → m.reading p ≡ Some xs → length p ≡ m.octets
   -- its reading has the counted fields, each in range, and is a legal reading
   pub counted : (p : List ℕ) (xs : List ℤ) → Octets p → m.reading p ≡ Some xs → length xs ≡ m.fields
-  pub ranged : (p : List ℕ) (xs : List ℤ) → Octets p → m.reading p ≡ Some xs → All InRange xs
+  pub ranged : (p : List ℕ) (xs : List ℤ) → Octets p → m.reading p ≡ Some xs → AllByRecursion InRange xs
   pub legal : (p : List ℕ) (xs : List ℤ) → Octets p → m.reading p ≡ Some xs → is_some (m.payload xs) ≡ true
   -- a proper payload is made of octets, is legal, and reads back as the reading that it was made from
   pub octets_made : (xs : List ℤ) (p : List ℕ) → m.payload xs ≡ Some p → Octets p

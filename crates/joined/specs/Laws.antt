@@ -5,7 +5,7 @@ use Rattle.std.specs.Int.{w8}
 use Rattle.std.proofs.lemmas.List.{length-append, take_at, drop_at, take-append-drop}
 use Rattle.std.proofs.ByRecursion.{All-append, All-from_get_or, All-take, All-drop}
 use Rattle.std.proofs.lemmas.Bool.{and_parts, leb-true, cond_both}
-use Rattle.std.specs.List.{AllByRecursion as All}
+use Rattle.std.specs.List.{AllByRecursion}
 use Rattle.datapoint.specs.Meaning.{Meaning, Lawful, Octets, InRange}
 use Rattle.joined.specs.Joined.{both, halves, appended, none_legal, fit, joined}
 
@@ -63,7 +63,7 @@ module _ (a b : Meaning) (la : Lawful a) (lb : Lawful b) where
     counted : length xs ≡ a.fields + b.fields
     counted = ap length read.whole ∙ (length-append _ _ ∙ ap₂ ◌+◌ (la.counted _ _ in_first read.first_is) (lb.counted _ _ in_second read.second_is))
 
-    ranged : All InRange xs
+    ranged : AllByRecursion InRange xs
     ranged = rw read.whole (All-append InRange _ _ (la.ranged _ _ in_first read.first_is) (lb.ranged _ _ in_second read.second_is))
 
     legal : is_some ((appended a b).payload xs) ≡ true

@@ -1,7 +1,7 @@
 -- A reading is read just where it is shown. Assumes nothing.
 use Rattle.std.proofs.Common.{◌≡◌, ℕ, zero, suc, ◌^◌, ◌<◌, ◌≤◌, true, false, eqb, leb, List, [], ◌∷◌, ◌++◌, length, ℤ, pos, negsuc, Some, None, codes, decimal, Option, refl, ap, ◌∙◌, append_assoc, arith, length-append}
 use Rattle.std.specs.Char.{is_ascii_digit}
-use Rattle.std.specs.List.{AllByRecursion as All}
+use Rattle.std.specs.List.{AllByRecursion}
 use Rattle.std.specs.Str.{all_ascii_digits}
 use Rattle.std.specs.Fmt.{signed_decimal}
 use Rattle.std.proofs.lemmas.Int.{ints}
@@ -33,7 +33,7 @@ abbrev pub go_on : ℕ → ℤ → List ℕ → Got (List ℤ)
 go_on turns x rest = if_came (read_literal (codes ",") rest) (λ more. read_fields_by turns more ⨟ λ xs end. got (x ∷ xs) end) (got (x ∷ []) rest)
 
 abbrev pub Fields : List ℤ → Type 0
-Fields xs = (1 ≤ length xs) × All InRange xs
+Fields xs = (1 ≤ length xs) × AllByRecursion InRange xs
 
 fields_back : (turns : ℕ) (xs : List ℤ) (rest : List ℕ) → length xs ≤ turns → Fields xs → Ends rest → read_fields_by turns (show_fields xs ++ rest) ≡ got xs rest
 fields_back zero [] rest few good ends = absurd (omega (arith, good.0))
@@ -101,7 +101,7 @@ field_some (pos n) good = decimal_nonempty n (omega (arith, ints))
 field_some (negsuc n) good = omega arith
 
 -- a text of fields has an octet for each of them
-fields_long : (xs : List ℤ) → All InRange xs → length xs ≤ length (show_fields xs)
+fields_long : (xs : List ℤ) → AllByRecursion InRange xs → length xs ≤ length (show_fields xs)
 fields_long [] good = omega arith
 fields_long (x ∷ []) good = omega (arith, field_some x good.0)
 fields_long (x ∷ (y ∷ xs)) good =

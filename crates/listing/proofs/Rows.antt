@@ -1,6 +1,6 @@
 -- A line is read just where it is shown, and how long a line is. Assumes nothing.
 use Rattle.std.proofs.Common.{◌≡◌, ℕ, suc, ◌+◌, ◌-◌, ◌*◌, ◌<◌, ◌≤◌, List, [], ◌∷◌, ◌++◌, length, ℤ, pos, negsuc, Some, None, codes, decimal, Option, sym, refl, ap, ◌∙◌, inl, inr, append_assoc, arith, length-append}
-use Rattle.std.specs.List.{AllByRecursion as All}
+use Rattle.std.specs.List.{AllByRecursion}
 use Rattle.std.specs.Fmt.{signed_decimal}
 use Rattle.std.proofs.lemmas.Int.{ints}
 use Rattle.std.proofs.lemmas.Bool.{cases_lt}
@@ -142,7 +142,7 @@ field_length : (x : ℤ) → InRange x → length (signed_decimal x) ≤ 11
 field_length (pos n) good = omega (arith, length-decimal-le 10 n (omega arith) (omega (arith, ints)) (omega (arith, ints)))
 field_length (negsuc n) good = omega (arith, length-decimal-le 10 (suc n) (omega arith) (omega (arith, ints)) (omega (arith, ints)))
 
-fields_length : (xs : List ℤ) → All InRange xs → length (show_fields xs) ≤ 12 * length xs - 1
+fields_length : (xs : List ℤ) → AllByRecursion InRange xs → length (show_fields xs) ≤ 12 * length xs - 1
 fields_length [] good = omega arith
 fields_length (x ∷ []) good = omega (arith, field_length x good.0)
 fields_length (x ∷ (y ∷ xs)) good = simp length-append (omega (arith, field_length x good.0, fields_length (y ∷ xs) good.1))

@@ -1,6 +1,6 @@
 -- What a line of a list says: a placed point. Assumes nothing.
 use Rattle.std.specs.Prelude.{ℕ, ◌≤◌, List, length, ℤ, Some, None, Option}
-use Rattle.std.specs.List.{AllByRecursion as All}
+use Rattle.std.specs.List.{AllByRecursion}
 use Rattle.datapoint.specs.Meaning.{InRange}
 use Rattle.book.specs.declared.number.TypeNumber.{TypeNumber}
 
@@ -14,7 +14,7 @@ pub record Row : Type 0 where
 -- a reading that can stand in a line: one field or more, each in range
 abbrev pub Writable : Option (List ℤ) → Type 0
 Writable None = Unit {0}
-Writable (Some xs) = (1 ≤ length xs) × All InRange xs
+Writable (Some xs) = (1 ≤ length xs) × AllByRecursion InRange xs
 
 -- a reading of at most sixteen fields, as every type's is
 abbrev pub Few : Option (List ℤ) → Type 0

@@ -1,7 +1,7 @@
 -- What every call keeps true of each point. Assumes nothing.
 use Rattle.std.proofs.Common.{◌≡◌, ℕ, zero, suc, ◌-◌, ◌≤◌, Bool, true, false, eqb, List, [], ◌∷◌, length, get_or, ℤ, is_some, Some, None, Ok, Err, Option, refl, ◌∙◌, subst, arith, length-set}
 use Rattle.std.proofs.ByRecursion.{All-set}
-use Rattle.std.specs.List.{AllByRecursion as All}
+use Rattle.std.specs.List.{AllByRecursion}
 use Rattle.datapoint.specs.declared.refusal.Refusal.{Refusal}
 use Rattle.datapoint.specs.declared.refusal.Refusal.TheVariants.{IllegalPayload, IllegalReading}
 use Rattle.datapoint.specs.Meaning.{Meaning, Lawful, Octets}
@@ -90,9 +90,9 @@ module _ (types : Types) (lawful : LawfulTypes types) where
 -- a board of 48 good points
 pub record GoodBoard (types : Types) (points : List Point) : Type 0 where
   pub count : length points ≡ 48
-  pub each : All (Good types) points
+  pub each : AllByRecursion (Good types) points
 
-pub good_at : (types : Types) (points : List Point) (i : ℕ) → All (Good types) points → Good types (get_or points i unplaced)
+pub good_at : (types : Types) (points : List Point) (i : ℕ) → AllByRecursion (Good types) points → Good types (get_or points i unplaced)
 good_at types [] i h = tt
 good_at types (s ∷ points) zero h = h.0
 good_at types (s ∷ points) (suc i) h = good_at types points i h.1

@@ -2,7 +2,7 @@
 use Rattle.std.proofs.Common.{◌≡◌, ℕ, zero, suc, ◌+◌, ◌-◌, ◌<◌, ◌≤◌, Bool, true, ltb, leb, List, [], ◌∷◌, ◌++◌, length, set, replicate, ℤ, is_some, Some, None, Ok, Err, Option, Result, sym, refl, ap, ◌∙◌, subst, append_assoc, append-nil, arith, length-append}
 use Rattle.std.proofs.lemmas.List.{set_at, length-replicate, replicate-append-replicate}
 use Rattle.std.proofs.lemmas.Bool.{lt-ltb, le-leb, eq-eqb, ltb-true, leb-true, and_parts}
-use Rattle.std.specs.List.{AllByRecursion as All}
+use Rattle.std.specs.List.{AllByRecursion}
 use Rattle.datapoint.specs.Meaning.{Meaning, Lawful}
 use Rattle.book.specs.declared.number.TypeNumber.{TypeNumber}
 use Rattle.book.specs.Types.{Types, LawfulTypes}
@@ -64,7 +64,7 @@ module _ (types : Types) (lawful : LawfulTypes types) where
       rw (on_board_true k (omega arith) high, lt-ltb last k above, g.has, legal_accepted_if g.meaning law normal g.normal_legal, legal_accepted_if g.meaning law forced g.forced_legal)
 
   -- the points behind those that are done load from their lines
-  load_shown : (turns line last k : ℕ) (done ys : List Point) → length done ≡ k → k + length ys ≡ 48 → last ≤ k → All (Good types) ys → length (show_from (suc k) ys) ≤ turns → load_lines turns types line last (show_from (suc k) ys) (done ++ replicate (length ys) unplaced) ≡ Ok (done ++ ys)
+  load_shown : (turns line last k : ℕ) (done ys : List Point) → length done ≡ k → k + length ys ≡ 48 → last ≤ k → AllByRecursion (Good types) ys → length (show_from (suc k) ys) ≤ turns → load_lines turns types line last (show_from (suc k) ys) (done ++ replicate (length ys) unplaced) ≡ Ok (done ++ ys)
   unfolding load_lines
   load_shown turns line last k done [] size all low good short = refl
   load_shown turns line last k done (unplaced ∷ ys) size all low good short =
@@ -102,7 +102,7 @@ show_unplaced k zero = refl
 show_unplaced k (suc j) = show_unplaced (suc k) j
 
 module _ (types : Types) (lawful : LawfulTypes types) where
-  good_unplaced : (j : ℕ) (zs : List Point) → All (Good types) zs → All (Good types) (replicate j unplaced ++ zs)
+  good_unplaced : (j : ℕ) (zs : List Point) → AllByRecursion (Good types) zs → AllByRecursion (Good types) (replicate j unplaced ++ zs)
   good_unplaced zero zs h = h
   good_unplaced (suc j) zs h = (tt, good_unplaced j zs h)
 
@@ -158,7 +158,7 @@ module _ (types : Types) (lawful : LawfulTypes types) where
     count : length ys ≡ 48 - last
     is : b ≡ done ++ ys
     shown : text ≡ show_from (suc last) ys
-    good : All (Good types) ys
+    good : AllByRecursion (Good types) ys
 
   abbrev Only : ℕ → Type 0
   Only turns = (line last : ℕ) (done : List Point) (text : List ℕ) (b : List Point) → length done ≡ last → last ≤ 48 → load_lines turns types line last text (done ++ replicate (48 - last) unplaced) ≡ Ok b → Rest last done text b
@@ -210,7 +210,7 @@ module _ (types : Types) (lawful : LawfulTypes types) where
     count = length-replicate (48 - last) unplaced;
     is = sym e;
     shown = sym (show_unplaced (suc last) (48 - last));
-    good = subst (All (Good types)) (append-nil (replicate (48 - last) unplaced)) (good_unplaced (48 - last) [] tt);
+    good = subst (AllByRecursion (Good types)) (append-nil (replicate (48 - last) unplaced)) (good_unplaced (48 - last) [] tt);
   }
 
   load_only : (turns : ℕ) → Only turns
@@ -225,4 +225,4 @@ module _ (types : Types) (lawful : LawfulTypes types) where
   unfolding empty
   loaded_lists text b h =
       let r = load_only (length text) 1 0 [] text b refl (omega arith) h in
-      (record { count = ap length r.is ∙ r.count; each = subst (All (Good types)) (sym r.is) r.good }, ap list_of r.is ∙ sym r.shown)
+      (record { count = ap length r.is ∙ r.count; each = subst (AllByRecursion (Good types)) (sym r.is) r.good }, ap list_of r.is ∙ sym r.shown)

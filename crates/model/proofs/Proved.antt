@@ -2,7 +2,7 @@
 use Rattle.std.proofs.Common.{◌≡◌, ℕ, ◌+◌, ◌≤◌, List, [], ◌∷◌, length, drop, replicate, Ok, Err, Result, sym, refl, ap, ◌∙◌, arith}
 use Rattle.std.proofs.lemmas.List.{length-replicate}
 use Rattle.std.proofs.ByRecursion.{All-weaker}
-use Rattle.std.specs.List.{AllByRecursion as All}
+use Rattle.std.specs.List.{AllByRecursion}
 use Rattle.book.specs.Types.{Types, LawfulTypes}
 use Rattle.model.specs.Points.{Point, unplaced, placed, empty, list_of}
 use Rattle.model.specs.Calls.{Answer}
@@ -20,7 +20,7 @@ good_stored : (types : Types) (s : Point) → Good types s → Stored types s
 good_stored types unplaced g = tt
 good_stored types (placed n normal forced) g = (g.meaning, g.has, g.normal_legal, g.forced_legal)
 
-builds_passable : (cs : List Call) → All Builds cs → All Passable cs
+builds_passable : (cs : List Call) → AllByRecursion Builds cs → AllByRecursion Passable cs
 builds_passable [] h = tt
 builds_passable (Place p n ∷ cs) h = (h.0, builds_passable cs h.1)
 builds_passable (Set p xs ∷ cs) h = (tt, builds_passable cs h.1)

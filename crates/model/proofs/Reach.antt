@@ -2,7 +2,7 @@
 use Rattle.std.proofs.Common.{◌≡◌, ℕ, zero, suc, ◌+◌, ◌-◌, ◌<◌, Bool, List, [], ◌∷◌, ◌++◌, length, set, replicate, ℤ, Some, None, Ok, Err, Option, Result, sym, refl, ap, ◌∙◌, subst, append_assoc, arith, length-append}
 use Rattle.std.proofs.lemmas.List.{set_at, get_or_at}
 use Rattle.std.proofs.ByRecursion.{All-append}
-use Rattle.std.specs.List.{AllByRecursion as All}
+use Rattle.std.specs.List.{AllByRecursion}
 use Rattle.datapoint.specs.Meaning.{Meaning}
 use Rattle.book.specs.declared.number.TypeNumber.{TypeNumber}
 use Rattle.book.specs.Types.{Types, LawfulTypes}
@@ -15,7 +15,7 @@ use Rattle.model.specs.Sound.{LegalIn}
 use Rattle.model.proofs.Good.{Good, GoodBoard, good_changed, placing_good, removing_good, receiving_good, setting_good, overriding_good, releasing_good}
 use Rattle.model.proofs.Lists.{loaded_lists, legal_accepted, on_board_true}
 
-good_none : (types : Types) (n : ℕ) → All (Good types) (replicate n unplaced)
+good_none : (types : Types) (n : ℕ) → AllByRecursion (Good types) (replicate n unplaced)
 good_none types zero = tt
 good_none types (suc n) = (tt, good_none types n)
 
@@ -44,7 +44,7 @@ module _ (types : Types) (lawful : LawfulTypes types) where
   perform_good (ListOut out) h points g = g
   perform_good (Load text) h points g = load_good text points (loaded types text) refl g
 
-  pub after_good : (cs : List Call) → All Passable cs → (points : List Point) → GoodBoard types points → GoodBoard types (after types cs points)
+  pub after_good : (cs : List Call) → AllByRecursion Passable cs → (points : List Point) → GoodBoard types points → GoodBoard types (after types cs points)
   after_good [] h points g = g
   after_good (c ∷ cs) h points g = after_good cs h.1 (perform types c points).1 (perform_good c h.0 points g)
 
@@ -68,22 +68,22 @@ module _ (types : Types) (lawful : LawfulTypes types) where
   build_from k [] = []
   build_from k (s ∷ points) = build_point k s ++ build_from (suc k) points
 
-  builds_set : (k : ℕ) (o : Option (List ℤ)) → All Builds (build_set k o)
+  builds_set : (k : ℕ) (o : Option (List ℤ)) → AllByRecursion Builds (build_set k o)
   unfolding build_set
   builds_set k None = tt
   builds_set k (Some xs) = (tt, tt)
 
-  builds_force : (k : ℕ) (o : Option (List ℤ)) → All Builds (build_force k o)
+  builds_force : (k : ℕ) (o : Option (List ℤ)) → AllByRecursion Builds (build_force k o)
   unfolding build_force
   builds_force k None = tt
   builds_force k (Some xs) = (tt, tt)
 
-  builds_point : (k : ℕ) (s : Point) → Good types s → All Builds (build_point k s)
+  builds_point : (k : ℕ) (s : Point) → Good types s → AllByRecursion Builds (build_point k s)
   unfolding build_point
   builds_point k unplaced g = tt
   builds_point k (placed n normal forced) g = ((g.main_most, g.sub_most), All-append Builds (build_set k normal) (build_force k forced) (builds_set k normal) (builds_force k forced))
 
-  pub builds_from : (k : ℕ) (points : List Point) → All (Good types) points → All Builds (build_from k points)
+  pub builds_from : (k : ℕ) (points : List Point) → AllByRecursion (Good types) points → AllByRecursion Builds (build_from k points)
   unfolding build_from
   builds_from k [] g = tt
   builds_from k (s ∷ points) g = All-append Builds (build_point k s) (build_from (suc k) points) (builds_point k s g.0) (builds_from (suc k) points g.1)
@@ -123,7 +123,7 @@ module _ (types : Types) (lawful : LawfulTypes types) where
       ∙ ap (after types (build_force (suc k) forced)) (set_next k done rest size high n g.meaning g.has normal g.normal_legal)
       ∙ force_next k done rest size high n g.meaning g.has normal forced g.forced_legal
 
-  build_next : (k : ℕ) (done ys : List Point) → length done ≡ k → k + length ys ≡ 48 → All (Good types) ys → after types (build_from (suc k) ys) (done ++ replicate (length ys) unplaced) ≡ done ++ ys
+  build_next : (k : ℕ) (done ys : List Point) → length done ≡ k → k + length ys ≡ 48 → AllByRecursion (Good types) ys → after types (build_from (suc k) ys) (done ++ replicate (length ys) unplaced) ≡ done ++ ys
   unfolding build_from
   build_next k done [] size all g = refl
   build_next k done (s ∷ ys) size all g =

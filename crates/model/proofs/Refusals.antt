@@ -1,7 +1,7 @@
 -- With which numbers the calls are refused on a good board, and how long its list is. Assumes nothing.
 use Rattle.std.proofs.Common.{◌≡◌, ℕ, zero, suc, ◌+◌, ◌-◌, ◌*◌, ◌≤◌, Bool, true, false, eqb, ltb, leb, List, [], ◌∷◌, length, get_or, ℤ, Some, None, Ok, Err, Option, Result, sym, refl, ap, ◌∙◌, subst, inl, inr, arith, length-append}
 use Rattle.std.proofs.lemmas.Bool.{eq-eqb}
-use Rattle.std.specs.List.{AllByRecursion as All}
+use Rattle.std.specs.List.{AllByRecursion}
 use Rattle.datapoint.specs.declared.refusal.Refusal.{Refusal}
 use Rattle.datapoint.specs.declared.refusal.Refusal.TheVariants.{IllegalPayload, IllegalReading}
 use Rattle.datapoint.specs.Refusals.{told}
@@ -81,7 +81,7 @@ module _ (types : Types) (lawful : LawfulTypes types) where
   point_length k unplaced high g = omega arith
   point_length k (placed n a f) high g = row_length (record { point = k; number = n; normal = a; forced = f }) (good_sayable types lawful k n a f high g) (few n g.meaning g.has a g.normal_legal) (few n g.meaning g.has f g.forced_legal)
 
-  from_length : (k : ℕ) (points : List Point) → k + length points ≤ 49 → All (Good types) points → length (show_from k points) ≤ 427 * length points
+  from_length : (k : ℕ) (points : List Point) → k + length points ≤ 49 → AllByRecursion (Good types) points → length (show_from k points) ≤ 427 * length points
   from_length k [] high g = omega arith
   from_length k (s ∷ points) high g = omega (arith, length-append (show_point k s) (show_from (suc k) points), point_length k s (omega arith) g.0, from_length (suc k) points (omega arith) g.1)
 

@@ -1,6 +1,6 @@
 -- Series of calls on one board, and what the caller sees of them. Assumes nothing.
 use Rattle.std.specs.Prelude.{◌≡◌, ℕ, ◌≤◌, List, [], ◌∷◌, ℤ, Result}
-use Rattle.std.specs.List.{AllByRecursion as All}
+use Rattle.std.specs.List.{AllByRecursion}
 use Rattle.datapoint.specs.Meaning.{Octets}
 use Rattle.datapoint.specs.Calls.{Outcome}
 use Rattle.book.specs.declared.number.TypeNumber.{TypeNumber}
@@ -86,4 +86,4 @@ after types (c ∷ cs) points = after types cs (perform types c points).1
 
 -- a board that some series reaches from an empty board
 abbrev pub Reached : Types → List Point → Type 0
-Reached types points = (cs : List Call) × All Passable cs × (after types cs empty ≡ points)
+Reached types points = (cs : List Call) × AllByRecursion Passable cs × (after types cs empty ≡ points)

@@ -1,6 +1,6 @@
 -- What holds of every board that a series reaches. Assumes nothing.
 use Rattle.std.specs.Prelude.{◌≡◌, ℕ, ◌≤◌, true, ◌⊎◌, List, [], ◌∷◌, length, ℤ, is_some, Some, None, Ok, Err, Option}
-use Rattle.std.specs.List.{AllByRecursion as All}
+use Rattle.std.specs.List.{AllByRecursion}
 use Rattle.datapoint.specs.Meaning.{Meaning}
 use Rattle.book.specs.Types.{Types}
 use Rattle.model.specs.Points.{Point, unplaced, placed, list_of}
@@ -44,7 +44,7 @@ RefusedBy ns (loads (Err f)) = OneOf ns f.cause
 
 pub record Soundness (types : Types) : Type 0 where
   -- each stored reading is legal in its type
-  pub stored : (points : List Point) → Reached types points → All (Stored types) points
+  pub stored : (points : List Point) → Reached types points → AllByRecursion (Stored types) points
   -- no call returns a number outside its own list
   pub refused : (points : List Point) → Reached types points → (c : Call) → Passable c → RefusedBy (refusals c) (perform types c points).0.reply
   -- the longest list fits 32,768 octets

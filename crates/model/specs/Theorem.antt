@@ -1,6 +1,6 @@
 -- What a board's list says of the board. Assumes nothing.
 use Rattle.std.specs.Prelude.{◌≡◌, ℕ, ◌≤◌, ◌⊎◌, List, [], ◌∷◌, length, ℤ, Ok, ◌≢◌}
-use Rattle.std.specs.List.{AllByRecursion as All}
+use Rattle.std.specs.List.{AllByRecursion}
 use Rattle.book.specs.Types.{Types}
 use Rattle.model.specs.Points.{Point, empty, list_of}
 use Rattle.model.specs.Load.{loading}
@@ -8,7 +8,7 @@ use Rattle.model.specs.Series.{Call, Place, Set, Override, Remove, Receive, Rele
 
 -- nothing done later tells two boards apart: every series made alike on both is seen alike
 abbrev pub Alike : Types → List Point → List Point → Type 0
-Alike types a b = (cs : List Call) → All Passable cs → seen types cs a ≡ seen types cs b
+Alike types a b = (cs : List Call) → AllByRecursion Passable cs → seen types cs a ≡ seen types cs b
 
 -- a read of the point p into sixteen places, whatever they held, is seen to differ
 abbrev pub ReadTells : Types → ℕ → List Point → List Point → Type 0
@@ -33,7 +33,7 @@ Builds (Load text) = ⊥
 
 -- the text is the list of a board that some series of place, set and override reaches from empty
 abbrev pub ListOfBuilt : Types → List ℕ → Type 0
-ListOfBuilt types text = (cs : List Call) × All Builds cs × (list_of (after types cs empty) ≡ text)
+ListOfBuilt types text = (cs : List Call) × AllByRecursion Builds cs × (list_of (after types cs empty) ≡ text)
 
 abbrev pub Loads : Types → List ℕ → List Point → Type 0
 Loads types text points = (loading types text points).0 ≡ Ok 0

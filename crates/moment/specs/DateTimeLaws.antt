@@ -4,7 +4,7 @@ use Rattle.std.proofs.Common.{sym, ap, ap₂, ◌∙◌, arith}
 use Rattle.std.proofs.ByRecursion.{All-append}
 use Rattle.std.proofs.lemmas.List.{drop-drop, take-append-drop}
 use Rattle.std.specs.Option.{option_map}
-use Rattle.std.specs.List.{AllByRecursion as All}
+use Rattle.std.specs.List.{AllByRecursion}
 use Rattle.datapoint.specs.Meaning.{Lawful, Octets, InRange}
 use Rattle.moment.specs.declared.flags.Flags.{Flags}
 use Rattle.moment.specs.declared.moment.Moment.{Moment}
@@ -98,7 +98,7 @@ moment_again m p =
     ∙ ap (λ (o : Option TimePart). o >>= told m.flags m.date)
     (ap (time_in voids) (unpacked m.time fits.0 fits.1) ∙ time_again voids m.time p.time_is))
 
-ranged : (m : Moment) → ProperMoment m → All InRange (moment_fields m)
+ranged : (m : Moment) → ProperMoment m → AllByRecursion InRange (moment_fields m)
 ranged m p =
     let voids = m.flags.voids in
     All-append InRange (date_fields voids m.date) (time_fields m.time ++ flags_fields m.flags) (date_ranged voids m.date p.date_is)

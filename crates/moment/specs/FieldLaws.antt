@@ -4,7 +4,7 @@ use Rattle.std.proofs.Common.{ap, arith}
 use Rattle.std.proofs.lemmas.Int.{ints}
 use Rattle.std.proofs.lemmas.Bool.{lt-ltb}
 use Rattle.std.proofs.lemmas.Bool.Decides.{nat_tests}
-use Rattle.std.specs.List.{AllByRecursion as All}
+use Rattle.std.specs.List.{AllByRecursion}
 use Rattle.datapoint.specs.Meaning.{InRange}
 use Rattle.datapoint.specs.Shapes.{when}
 use Rattle.clock.specs.Fields.{octet_of}
@@ -14,7 +14,7 @@ use Rattle.moment.specs.Voidable.{unless, years_of}
 use Rattle.clock.specs.Taken.{none_made}
 
 -- numbers below 65536 are in range
-pub in_range : (ns : List ℕ) → All (λ n. n < 65536) ns → All InRange (map pos ns)
+pub in_range : (ns : List ℕ) → AllByRecursion (λ n. n < 65536) ns → AllByRecursion InRange (map pos ns)
 in_range [] h = tt
 in_range (n ∷ ns) h = let small = h.0 in (grind (arith, ints), in_range ns h.1)
 

@@ -2,7 +2,7 @@
 use Rattle.std.specs.Prelude.{◌≡◌, ℕ, ◌*◌, ◌/◌, ◌%◌, ◌^◌, ◌≤◌, Bool, true, false, not, ◌&&◌, List, [], ◌∷◌, ℤ, pos, Some, nat_eq, refl}
 use Rattle.std.proofs.Common.{ap, ap₂, ◌∙◌, arith}
 use Rattle.std.proofs.lemmas.Bool.{eq-eqb}
-use Rattle.std.specs.List.{AllByRecursion as All}
+use Rattle.std.specs.List.{AllByRecursion}
 use Rattle.datapoint.specs.Meaning.{Octets, InRange}
 use Rattle.moment.specs.declared.flags.Flags.{Flags}
 use Rattle.moment.specs.declared.flags.Voids.{Voids}
@@ -116,7 +116,7 @@ flags_octets_made flags =
       digit_le flags.synchronized,
     )
 
-pub flags_ranged : (flags : Flags) → All InRange (flags_fields flags)
+pub flags_ranged : (flags : Flags) → AllByRecursion InRange (flags_fields flags)
 flags_ranged flags =
     in_range
     (digit flags.fault ∷ (digit (working flags.workday) ∷ (digit (untold flags.workday) ∷ (digit flags.voids.year ∷ (digit flags.voids.date ∷

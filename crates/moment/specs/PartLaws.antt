@@ -3,7 +3,7 @@ use Rattle.std.specs.Prelude.{◌≡◌, ℕ, ◌+◌, ◌<◌, Bool, true, fals
 use Rattle.std.proofs.Common.{ap, arith}
 use Rattle.std.proofs.lemmas.Bool.{and_parts}
 use Rattle.std.proofs.lemmas.Bool.Decides.{nat_tests}
-use Rattle.std.specs.List.{AllByRecursion as All}
+use Rattle.std.specs.List.{AllByRecursion}
 use Rattle.datapoint.specs.Meaning.{Octets, InRange}
 use Rattle.datapoint.specs.Shapes.{when}
 use Rattle.moment.specs.declared.flags.Voids.{Voids}
@@ -131,7 +131,7 @@ date_back voids date p =
 pub date_octets_made : (voids : Voids) (date : DatePart) → ProperDate voids date → Octets (date_octets date)
 date_octets_made voids date p = let few = date_few date p.narrow_is in (p.fits, (few.0, (few.1, tt)))
 
-pub date_ranged : (voids : Voids) (date : DatePart) → ProperDate voids date → All InRange (date_fields voids date)
+pub date_ranged : (voids : Voids) (date : DatePart) → ProperDate voids date → AllByRecursion InRange (date_fields voids date)
 date_ranged voids date p =
     let few = date_few date p.narrow_is in
     let year = unless_le voids.year (1900 + date.years) in
@@ -221,7 +221,7 @@ time_back voids time p =
 pub time_octets_made : (voids : Voids) (time : TimePart) → ProperTime voids time → Octets (time_octets time)
 time_octets_made voids time p = let few = time_few time p.narrow_is in (omega arith, (few.0, (few.1, tt)))
 
-pub time_ranged : (voids : Voids) (time : TimePart) → ProperTime voids time → All InRange (time_fields time)
+pub time_ranged : (voids : Voids) (time : TimePart) → ProperTime voids time → AllByRecursion InRange (time_fields time)
 time_ranged voids time p =
     let few = time_few time p.narrow_is in
     in_range (time.weekday ∷ (time.hour ∷ (time.minute ∷ (time.second ∷ [])))) (omega arith)

@@ -1,5 +1,5 @@
 -- A control bit with a value bit. Assumes nothing.
-use Rattle.std.specs.Prelude.{◌&&◌, cond, [], ◌∷◌, ◌+◌, ◌*◌, ◌/◌, ◌%◌, leb, ltb, eqb, pos}
+use Rattle.std.specs.Prelude.{◌&&◌, cond, [], ◌∷◌, ◌+◌, ◌*◌, ◌/◌, ◌%◌, nat_le, nat_lt, ◌==◌, pos}
 use Rattle.datapoint.specs.Meaning.{Meaning}
 use Rattle.datapoint.specs.Shapes.{when, one, two, natural}
 
@@ -8,6 +8,6 @@ abbrev pub controlled : Meaning
 controlled = record {
   octets = 1;
   fields = 2;
-  reading = one (λ b. when (ltb b 4) (pos (b / 2) ∷ (pos (cond (eqb (b / 2) 0) 0 (b % 2)) ∷ [])));
-  payload = two (λ x y. natural (λ control. natural (λ value. when (leb control 1 && leb value control) ((2 * control + value) ∷ [])) y) x);
+  reading = one (λ b. when (nat_lt b 4) (pos (b / 2) ∷ (pos (cond (b / 2 == 0) 0 (b % 2)) ∷ [])));
+  payload = two (λ x y. natural (λ control. natural (λ value. when (nat_le control 1 && nat_le value control) ((2 * control + value) ∷ [])) y) x);
 }

@@ -1,5 +1,5 @@
 -- One octet from 0 to a highest value. Assumes nothing.
-use Rattle.std.specs.Prelude.{[], ◌∷◌, ℕ, leb, pos}
+use Rattle.std.specs.Prelude.{[], ◌∷◌, ℕ, nat_le, pos}
 use Rattle.datapoint.specs.Meaning.{Meaning}
 use Rattle.datapoint.specs.Shapes.{when, one, natural}
 
@@ -7,6 +7,6 @@ abbrev pub up_to : ℕ → Meaning
 up_to highest = record {
   octets = 1;
   fields = 1;
-  reading = one (λ b. when (leb b highest) (pos b ∷ []));
-  payload = one (natural (λ n. when (leb n highest) (n ∷ [])));
+  reading = one (λ b. when (nat_le b highest) (pos b ∷ []));
+  payload = one (natural (λ n. when (nat_le n highest) (n ∷ [])));
 }

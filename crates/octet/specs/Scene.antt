@@ -1,5 +1,5 @@
 -- A scene number with one flag bit. Assumes nothing.
-use Rattle.std.specs.Prelude.{◌&&◌, cond, [], ◌∷◌, ℕ, ◌+◌, ◌*◌, ◌/◌, ◌%◌, leb, ltb, eqb, pos}
+use Rattle.std.specs.Prelude.{◌&&◌, cond, [], ◌∷◌, ℕ, ◌+◌, ◌*◌, ◌/◌, ◌%◌, nat_le, nat_lt, ◌==◌, pos}
 use Rattle.datapoint.specs.Meaning.{Meaning}
 use Rattle.datapoint.specs.Shapes.{when, one, two, natural}
 use Rattle.octet.specs.declared.scene.Flag.{Flag}
@@ -15,6 +15,6 @@ abbrev pub flagged : Flag → Meaning
 flagged flag = record {
   octets = 1;
   fields = 2;
-  reading = one (λ b. when (ltb b (2 * weight flag) && ltb (b % weight flag) 64) (pos (b / weight flag) ∷ (pos (b % weight flag) ∷ [])));
-  payload = two (λ x y. natural (λ set. natural (λ scene. when (leb set 1 && ltb scene 64) ((cond (eqb set 1) (weight flag) 0 + scene) ∷ [])) y) x);
+  reading = one (λ b. when (nat_lt b (2 * weight flag) && nat_lt (b % weight flag) 64) (pos (b / weight flag) ∷ (pos (b % weight flag) ∷ [])));
+  payload = two (λ x y. natural (λ set. natural (λ scene. when (nat_le set 1 && nat_lt scene 64) ((cond (set == 1) (weight flag) 0 + scene) ∷ [])) y) x);
 }

@@ -1,5 +1,5 @@
 -- A direction with a step code. Assumes nothing.
-use Rattle.std.specs.Prelude.{◌&&◌, cond, [], ◌∷◌, ◌+◌, ◌*◌, ◌/◌, ◌%◌, leb, ltb, eqb, pos}
+use Rattle.std.specs.Prelude.{◌&&◌, cond, [], ◌∷◌, ◌+◌, ◌*◌, ◌/◌, ◌%◌, nat_le, nat_lt, ◌==◌, pos}
 use Rattle.datapoint.specs.Meaning.{Meaning}
 use Rattle.datapoint.specs.Shapes.{when, one, two, natural}
 
@@ -8,6 +8,6 @@ abbrev pub stepped : Meaning
 stepped = record {
   octets = 1;
   fields = 2;
-  reading = one (λ b. when (ltb b 16) (pos (cond (eqb (b % 8) 0) 0 (b / 8)) ∷ (pos (b % 8) ∷ [])));
-  payload = two (λ x y. natural (λ direction. natural (λ code. when (leb direction (cond (eqb code 0) 0 1) && ltb code 8) ((8 * direction + code) ∷ [])) y) x);
+  reading = one (λ b. when (nat_lt b 16) (pos (cond (b % 8 == 0) 0 (b / 8)) ∷ (pos (b % 8) ∷ [])));
+  payload = two (λ x y. natural (λ direction. natural (λ code. when (nat_le direction (cond (code == 0) 0 1) && nat_lt code 8) ((8 * direction + code) ∷ [])) y) x);
 }

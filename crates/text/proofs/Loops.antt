@@ -1,6 +1,6 @@
 -- What each loop keeps true, with the step of a turn and what the loop comes to. Assumes nothing.
 use Rattle.std.proofs.Common.{◌≡◌, ℕ, suc, ◌+◌, ◌-◌, ◌<◌, ◌≤◌, true, ◌&&◌, leb, List, [], ◌∷◌, ◌++◌, map, length, get_or, take, drop, set, replicate, ℤ, pos, nat_abs, ◌≤ℤ◌, ◌<ℤ◌, Some, None, Option, sym, refl, ap, ◌∙◌, append_assoc, arith}
-use Rattle.std.specs.List.{AllByRecursion as All}
+use Rattle.std.specs.List.{AllByRecursion}
 use Rattle.std.proofs.ByRecursion.{All-get_or, All-push}
 use Rattle.std.proofs.lemmas.List.{at_drop_more, at_drop_all, take_all, take_more, take_more_set, length-take-le, length-set, length-map, set_at, map_push, map-set, get_or-map}
 use Rattle.std.proofs.lemmas.Int.{ints}
@@ -66,7 +66,7 @@ filled_none p long =
 pub record Taken (highest : ℕ) (xs : List ℤ) (octets : List ℕ) (i : ℕ) : Type 0 where
   pub long : length octets ≡ 14
   pub same : map pos (take i octets) ≡ take i xs
-  pub low : All (λ b. b ≤ highest) (take i octets)
+  pub low : AllByRecursion (λ b. b ≤ highest) (take i octets)
 
 -- `proper`: the first i fields are taken
 pub record Proper (highest : ℕ) (xs : List ℤ) (octets : List ℕ) (i : ℕ) : Type 0 where

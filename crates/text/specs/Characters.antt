@@ -1,7 +1,7 @@
 -- What holds of the characters of a list of octets. Assumes nothing.
 use Rattle.std.specs.Prelude.{◌≡◌, ℕ, zero, suc, ◌+◌, ◌-◌, ◌<◌, ◌≤◌, true, List, [], ◌∷◌, ◌++◌, length, take, drop, replicate, ◌≢◌, slice_index, refl}
 use Rattle.std.proofs.Common.{sym, ap, ◌∙◌, append-nil, append_assoc, arith}
-use Rattle.std.specs.List.{AllByRecursion as All}
+use Rattle.std.specs.List.{AllByRecursion}
 use Rattle.std.proofs.ByRecursion.{All-append}
 use Rattle.std.proofs.lemmas.List.{length-append, length-replicate, take_all, take_more, at_drop_more, at_drop_all}
 use Rattle.text.specs.Text.{within, characters, cleared, ended}
@@ -37,7 +37,7 @@ length_characters (suc n ∷ rest) = omega (arith, length_characters rest)
 pub length_cleared : (p : List ℕ) → length (cleared p) ≡ length p
 length_cleared p = simp (length-append, length-replicate) (omega (arith, length_characters p))
 
-all_characters : (P : ℕ → Type 0) (p : List ℕ) → All P p → All P (characters p)
+all_characters : (P : ℕ → Type 0) (p : List ℕ) → AllByRecursion P p → AllByRecursion P (characters p)
 all_characters P [] h = tt
 all_characters P (zero ∷ rest) h = tt
 all_characters P (suc n ∷ rest) h = (h.0, all_characters P rest h.1)
