@@ -71,7 +71,7 @@ pub smallest_valid : (high low e : ℕ) → high < 256 → low < 256 → IsLeast
 smallest_valid high low e h l t passes =
     let x = value_of high low in
     let (first, second) = packed (mantissa_at x e) e in
-    ⊎_elim (λ valid-too. valid-too)
+    ⊎_elim (λ valid_too. valid_too)
     (λ fails.
     let i = invalid_is first second fails in
     let q : e ≡ exponent_of high = omega (arith, i, exponent_held x e t.1 t.0, exponent_least high low h l e t) in

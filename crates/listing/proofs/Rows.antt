@@ -68,13 +68,13 @@ placed_only s p rest e =
     taken (literal (codes "point=")) _ s p rest e λ u₁ t₁ e₁ g₁ e.
     taken (whole 65535 (omega arith)) _ t₁ p rest e λ point t₂ e₂ point_most e.
     taken (literal (codes " type=")) _ t₂ p rest e λ u₃ t₃ e₃ g₃ e.
-    taken number _ t₃ p rest e λ n t₄ e₄ n-good e.
+    taken number _ t₃ p rest e λ n t₄ e₄ n_good e.
     let p_is : (point, n) ≡ p = cc in
     let end : t₄ ≡ rest = cc in
     rw (← p_is, ← end) (
       e₁ ∙ ap (λ t. codes "point=" ++ t) (e₂ ∙ ap (λ t. decimal point ++ t) (e₃ ∙ ap (λ t. codes " type=" ++ t) e₄))
           ∙ sym (placed_text (codes "point=") (decimal point) (codes " type=") (show_number n) t₄),
-      (point_most, n-good),
+      (point_most, n_good),
     )
 
 placed : Reads read_placed show_placed Placed NoDigit
@@ -129,13 +129,13 @@ row_back r rest good =
 pub row_only : (s : List ℕ) (r : Row) (rest : List ℕ) → read_row s ≡ got r rest → (s ≡ show_row r ++ rest) × Sayable r
 unfolding read_row Numbered Placed Two
 row_only s r rest e =
-    taken placed _ s r rest e λ p t e₁ p-good e.
-    taken readings _ t r rest e λ v u e₂ v-good e.
+    taken placed _ s r rest e λ p t e₁ p_good e.
+    taken readings _ t r rest e λ v u e₂ v_good e.
     let r_is : record { point = p.0; number = p.1; normal = v.0; forced = v.1 } ≡ r = cc in
     let end : u ≡ rest = cc in
     rw (← r_is, ← end) (
       e₁ ∙ ap (λ t. show_placed p ++ t) e₂ ∙ sym (row_text (codes "point=") (decimal p.0) (codes " type=") (show_number p.1) (show_readings v) u),
-      record { point_most = p-good.0; main_most = p-good.1.0; sub_most = p-good.1.1; normal_good = v-good.0; forced_good = v-good.1 },
+      record { point_most = p_good.0; main_most = p_good.1.0; sub_most = p_good.1.1; normal_good = v_good.0; forced_good = v_good.1 },
     )
 
 field_length : (x : ℤ) → InRange x → length (signed_decimal x) ≤ 11
@@ -165,12 +165,12 @@ row_sum : (k₁ a k₂ b k₃ c k₄ d k₅ : List ℕ) → length (k₁ ++ (a +
 row_sum k₁ a k₂ b k₃ c k₄ d k₅ = simp length-append
 
 pub row_length : (r : Row) → Sayable r → Few r.normal → Few r.forced → length (show_row r) ≤ 427
-row_length r good normal-few forced-few =
+row_length r good normal_few forced_few =
     let point_long = length-decimal-le 5 r.point (omega arith) (omega (arith, good.point_most)) (omega (arith, good.point_most)) in
     let main_long = length-decimal-le 5 r.number.main (omega arith) (omega (arith, good.main_most)) (omega (arith, good.main_most)) in
     let sub_long = sub_length r.number.sub good.sub_most in
-    let normal_long = reading_length r.normal good.normal_good normal-few in
-    let forced_long = reading_length r.forced good.forced_good forced-few in
+    let normal_long = reading_length r.normal good.normal_good normal_few in
+    let forced_long = reading_length r.forced good.forced_good forced_few in
     let number_long = number_sum (decimal r.number.main) (codes ".") (show_sub r.number.sub) in
     let all = row_sum (codes "point=") (decimal r.point) (codes " type=") (show_number r.number) (codes " normal=") (show_reading r.normal) (codes " forced=") (show_reading r.forced) (codes "\n") in
     omega arith

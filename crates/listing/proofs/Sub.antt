@@ -83,7 +83,7 @@ sub_back n rest most stop = elim (cases_lt n 100) [ inl l ↦ pair l | inr l ↦
 pair_only : (s : List ℕ) (n : ℕ) (rest : List ℕ) → (read_digit s ⨟ tens_ones) ≡ got n rest → (n < 100) × (s ≡ (48 + n / 10) ∷ ((48 + n % 10) ∷ rest))
 unfolding tens_ones
 pair_only s n rest e =
-    taken digit _ s n rest e λ tens t text₁ tens-small e.
+    taken digit _ s n rest e λ tens t text₁ tens_small e.
     taken digit _ t n rest e λ ones u text₂ ones_small e.
     let value : 10 * tens + ones ≡ n = cc in
     let end : u ≡ rest = cc in

@@ -82,8 +82,8 @@ whole_only limit few (c ∷ s) n rest e = by (eqb c 48) refl (is_ascii_digit c) 
 
     by : (z : Bool) → eqb c 48 ≡ z → (d : Bool) → is_ascii_digit c ≡ d → (l : Bool) → leb k limit ≡ l →
         cond z (got 0 s) (cond d (cond d (cond l (read_digits limit k s) bad) (got 0 (c ∷ s))) bad) ≡ got n rest → ((c ∷ s) ≡ decimal n ++ rest) × (n ≤ limit)
-    by true zero-digit d g l t e =
-        let c_is = eqb-true c 48 zero-digit in
+    by true zero_digit d g l t e =
+        let c_is = eqb-true c 48 zero_digit in
         let n_is : 0 ≡ n = cc in
         let shown = decimal_digit 0 (omega arith) in
         let same : decimal n ≡ 48 ∷ [] = cc in

@@ -1,6 +1,5 @@
 -- The types of one octet are lawful. Assumes nothing.
-use Prim.Native.Nat.{ℕ, ◌<◌}
-use borrow.Author.Rules.{rules}
+use Rattle.std.proofs.Common.{ℕ, ◌<◌, rules}
 use Rattle.datapoint.specs.Meaning.{Lawful}
 use Rattle.octet.specs.declared.scene.Flag.{Flag}
 use Rattle.octet.specs.Range.{up_to}
