@@ -2,7 +2,10 @@
 """Brings the repository's own definitions, lemmas, fields and local names to today's spelling.
 
 usage: python3 tools/respell.py            at the top of the repository, once, right after the kit's port.py
-       python3 tools/respell.py --list     prints each old and new name, and names that fall together
+       python3 tools/respell.py --list     there, prints each old and new name, and which names would fall together
+
+It rewrites files in place: specs/ and proofs/, the clauses of src/, and names between backticks in README.md and docs/.
+It has been run (docs/PORT.md tells when), finds nothing more in the crates, and need not be run again.
 
 A name in lower case gets `_` for each dash; a name that begins with a capital, which is a type, loses its dashes and gets a capital at each part.
 Names that Rattle makes (goals, loops, steps) and names of the kit's library keep their dashes.
@@ -92,13 +95,15 @@ def main():
     new, port = {n: respelled(n) for n in names}, set()
     if "--list" in sys.argv[1:]:
         for n in sorted(names):
-            print(n, new[n])
+            same = [m for m in sorted(names) if m != n and new[m] == new[n]]
+            print(n, new[n], *(["falls together with"] + same if same else []))
         return
     for path in antt_files():
         with open(path, encoding="utf-8") as f:
             port.update(n for n in DECLARED.findall(f.read()) if "_" in n)
+    # Pages still have the dashes of names that port.py has turned.
     in_pages = {n.replace("_", "-"): n for n in port} | new
-    pages = ["README.md"] + sorted(glob.glob("docs/*.md"))
+    pages = ["README.md"] + sorted(set(glob.glob("docs/*.md")) - {"docs/PORT.md"})
     for path in antt_files() + sorted(glob.glob("crates/*/src/**/*.rt", recursive=True)) + pages:
         with open(path, encoding="utf-8") as f:
             old = f.read()
