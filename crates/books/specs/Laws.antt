@@ -8,7 +8,7 @@ use Rattle.book.specs.Types.{LawfulTypes}
 use Rattle.book.specs.Lawful.{bound_lawful}
 use Rattle.octet.specs.Range.{up_to}
 use Rattle.octet.specs.declared.scene.Flag.TheVariants.{Bit6, Bit7}
-use Rattle.octet.proofs.Laws.{up_to_lawful, controlled_lawful, stepped_lawful, flagged_lawful}
+use Rattle.octet.specs.Laws.{up_to_lawful, controlled_lawful, stepped_lawful, flagged_lawful}
 use Rattle.whole.specs.Whole.{whole}
 use Rattle.whole.specs.declared.whole.Width.{Width}
 use Rattle.whole.specs.declared.whole.Width.TheVariants.{One, Two, Four}

@@ -2,3 +2,4 @@ pub mod Range
 pub mod Control
 pub mod Step
 pub mod Scene
+pub mod Laws

@@ -1,6 +1,6 @@
 // A control bit with a value bit. Without control the value reads 0.
 ghost use Rattle.octet.specs.Control.{controlled};
-ghost use Rattle.std.proofs.Common.{rules};
+ghost use Rattle.octet.specs.Laws.{controlled_lawful};
 
 use datapoint::datapoint_type::{Counts, DatapointType};
 use datapoint::front::deliver;
@@ -12,7 +12,7 @@ pub struct Controlled;
 impl DatapointType for Controlled {
     ghost meaning = { λ _. controlled };
 
-    ghost lawful = { Prim.search rules };
+    ghost lawful = { λ s. controlled_lawful };
 
     fn counts(&self) -> Counts {
         Counts {

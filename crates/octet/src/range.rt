@@ -1,7 +1,7 @@
 // One octet from 0 to a highest value: the one-bit types, characters, scenes, modes and status octets.
 ghost use Rattle.std.specs.Prelude.{◌<◌};
 ghost use Rattle.octet.specs.Range.{up_to};
-ghost use Rattle.std.proofs.Common.{rules};
+ghost use Rattle.octet.specs.Laws.{up_to_lawful};
 
 use datapoint::datapoint_type::{Counts, DatapointType};
 use datapoint::front::deliver;
@@ -16,7 +16,7 @@ pub struct UpTo {
 impl DatapointType for UpTo {
     ghost meaning = { λ s. up_to s.highest };
 
-    ghost lawful = { Prim.search rules };
+    ghost lawful = { λ s. up_to_lawful s.highest s.octet };
 
     fn counts(&self) -> Counts {
         Counts {

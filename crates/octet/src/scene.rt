@@ -1,7 +1,7 @@
 // A scene number, 0 to 63, with one flag bit.
 ghost use Rattle.std.specs.Prelude.{◌+◌, ◌<◌, ◌≡◌};
 ghost use Rattle.octet.specs.Scene.{flagged, weight};
-ghost use Rattle.std.proofs.Common.{rules};
+ghost use Rattle.octet.specs.Laws.{flagged_lawful};
 
 use datapoint::datapoint_type::{Counts, DatapointType};
 use datapoint::front::deliver;
@@ -34,7 +34,7 @@ pub struct FlaggedScene {
 impl DatapointType for FlaggedScene {
     ghost meaning = { λ s. flagged s.flag };
 
-    ghost lawful = { Prim.search rules };
+    ghost lawful = { λ s. flagged_lawful s.flag };
 
     fn counts(&self) -> Counts {
         Counts {

@@ -1,6 +1,6 @@
 // A direction with a step code. Code 0 is a break, and its direction reads 0.
 ghost use Rattle.octet.specs.Step.{stepped};
-ghost use Rattle.std.proofs.Common.{rules};
+ghost use Rattle.octet.specs.Laws.{stepped_lawful};
 
 use datapoint::datapoint_type::{Counts, DatapointType};
 use datapoint::front::deliver;
@@ -12,7 +12,7 @@ pub struct Stepped;
 impl DatapointType for Stepped {
     ghost meaning = { λ _. stepped };
 
-    ghost lawful = { Prim.search rules };
+    ghost lawful = { λ s. stepped_lawful };
 
     fn counts(&self) -> Counts {
         Counts {
