@@ -1,29 +1,28 @@
 -- The laws of the flags of a date and time. Assumes nothing.
-use Rattle.std.specs.Prelude.{◌≡◌, ℕ, ◌*◌, ◌/◌, ◌%◌, ◌^◌, ◌≤◌, Bool, true, false, not, ◌&&◌, List, [], ◌∷◌, ℤ, pos, Some, nat_eq, refl}
+use Rattle.std.specs.Prelude.{◌≡◌, ℕ, ◌*◌, ◌/◌, ◌%◌, ◌^◌, ◌≤◌, Bool, true, false, not, ◌&&◌, List, [], ◌∷◌, ℤ, pos, Some, None, Option, unwrap_or, is_none, nat_eq, refl}
 use Rattle.std.proofs.Common.{ap, ap₂, ◌∙◌, arith}
 use Rattle.std.proofs.lemmas.Bool.{eq-eqb}
 use Rattle.std.specs.List.{AllByRecursion}
 use Rattle.datapoint.specs.Meaning.{Octets, InRange}
 use Rattle.moment.specs.declared.flags.Flags.{Flags}
 use Rattle.moment.specs.declared.flags.Voids.{Voids}
-use Rattle.moment.specs.declared.flags.Workday.{Workday}
-use Rattle.moment.specs.declared.flags.Workday.TheVariants.{Untold, Free, Working}
 use Rattle.moment.specs.Bits.{bit, digit}
-use Rattle.moment.specs.Flags.{flag_of, workday_told, workday_of, working, untold, voids_of, flags_in, flags_of, flags_octet, flags_octets, flags_fields}
+use Rattle.moment.specs.Flags.{flag_of, workday_told, workday_of, voids_of, flags_in, flags_of, flags_octet, flags_octets, flags_fields}
 use Rattle.clock.specs.Taken.{by_next, by_end, by_when, by_bind, by_some}
 use Rattle.moment.specs.FieldLaws.{in_range, flag_was, flag_back}
 
 -- flags of fields
 
-workday_made : (wd nwd : Bool) → not (wd && nwd) ≡ true →
-    (digit wd ≡ digit (working (workday_told wd nwd))) × (digit nwd ≡ digit (untold (workday_told wd nwd)))
+workday_made :
+    (wd nwd : Bool) → not (wd && nwd) ≡ true →
+    (digit wd ≡ digit (unwrap_or (workday_told wd nwd) false)) × (digit nwd ≡ digit (is_none (workday_told wd nwd)))
 workday_made true true t = grind arith
 workday_made true false t = (refl, refl)
 workday_made false true t = (refl, refl)
 workday_made false false t = (refl, refl)
 
 workday_was :
-    (x y : ℤ) (w : Workday) → workday_of (x ∷ (y ∷ [])) ≡ Some w → (x ≡ pos (digit (working w))) × (y ≡ pos (digit (untold w)))
+    (x y : ℤ) (w : Option Bool) → workday_of (x ∷ (y ∷ [])) ≡ Some w → (x ≡ pos (digit (unwrap_or w false))) × (y ≡ pos (digit (is_none w)))
 workday_was x y =
     by_bind (flag_of x) _ _ λ wd ew. by_bind (flag_of y) _ _ λ nwd en. by_when _ _ _ λ t.
     let made = workday_made wd nwd t in let xw = flag_was x wd ew in let yw = flag_was y nwd en in (cc, cc)
@@ -44,10 +43,10 @@ flags_were =
     let sw = flag_was suti summer es in let cw = flag_was clq synchronized ec in
     cc))
 
-workday_back : (w : Workday) → workday_of (pos (digit (working w)) ∷ (pos (digit (untold w)) ∷ [])) ≡ Some w
-workday_back Untold = refl
-workday_back Free = refl
-workday_back Working = refl
+workday_back : (w : Option Bool) → workday_of (pos (digit (unwrap_or w false)) ∷ (pos (digit (is_none w)) ∷ [])) ≡ Some w
+workday_back None = refl
+workday_back (Some false) = refl
+workday_back (Some true) = refl
 
 voids_back :
     (v : Voids) → voids_of (pos (digit v.year) ∷ (pos (digit v.date) ∷ (pos (digit v.weekday) ∷ (pos (digit v.time) ∷ [])))) ≡ Some v
@@ -67,18 +66,17 @@ bit_is : (b : Bool) (k octet : ℕ) → octet / 2 ^ k % 2 ≡ digit b → bit k 
 bit_is true k octet e = ap (λ (n : ℕ). nat_eq n 1) e
 bit_is false k octet e = ap (λ (n : ℕ). nat_eq n 1) e
 
-workday_is : (w : Workday) → workday_told (working w) (untold w) ≡ w
-workday_is Untold = refl
-workday_is Free = refl
-workday_is Working = refl
+workday_is : (w : Option Bool) → workday_told (unwrap_or w false) (is_none w) ≡ w
+workday_is None = refl
+workday_is (Some wd) = refl
 
 pub flags_again : (flags : Flags) → flags_in (flags_octet flags) (128 * digit flags.synchronized) ≡ Some flags
 flags_again flags =
     let octet = flags_octet flags in
     let quality = 128 * digit flags.synchronized in
     let f = digit_le flags.fault in
-    let wd = digit_le (working flags.workday) in
-    let nwd = digit_le (untold flags.workday) in
+    let wd = digit_le (unwrap_or flags.workday false) in
+    let nwd = digit_le (is_none flags.workday) in
     let ny = digit_le flags.voids.year in
     let nd = digit_le flags.voids.date in
     let ndow = digit_le flags.voids.weekday in
@@ -90,7 +88,7 @@ flags_again flags =
     (ap Some
     (λ i. record {
       fault = bit_is flags.fault 7 octet (omega arith) i;
-      workday = (ap₂ workday_told (bit_is (working flags.workday) 6 octet (omega arith)) (bit_is (untold flags.workday) 5 octet (omega arith)) ∙ workday_is flags.workday) i;
+      workday = (ap₂ workday_told (bit_is (unwrap_or flags.workday false) 6 octet (omega arith)) (bit_is (is_none flags.workday) 5 octet (omega arith)) ∙ workday_is flags.workday) i;
       voids = record {
         year = bit_is flags.voids.year 4 octet (omega arith) i;
         date = bit_is flags.voids.date 3 octet (omega arith) i;
@@ -106,8 +104,8 @@ flags_octets_made flags =
     omega (
       arith,
       digit_le flags.fault,
-      digit_le (working flags.workday),
-      digit_le (untold flags.workday),
+      digit_le (unwrap_or flags.workday false),
+      digit_le (is_none flags.workday),
       digit_le flags.voids.year,
       digit_le flags.voids.date,
       digit_le flags.voids.weekday,
@@ -119,13 +117,13 @@ flags_octets_made flags =
 pub flags_ranged : (flags : Flags) → AllByRecursion InRange (flags_fields flags)
 flags_ranged flags =
     in_range
-    (digit flags.fault ∷ (digit (working flags.workday) ∷ (digit (untold flags.workday) ∷ (digit flags.voids.year ∷ (digit flags.voids.date ∷
+    (digit flags.fault ∷ (digit (unwrap_or flags.workday false) ∷ (digit (is_none flags.workday) ∷ (digit flags.voids.year ∷ (digit flags.voids.date ∷
     (digit flags.voids.weekday ∷ (digit flags.voids.time ∷ (digit flags.summer ∷ (digit flags.synchronized ∷ [])))))))))
     (omega (
       arith,
       digit_le flags.fault,
-      digit_le (working flags.workday),
-      digit_le (untold flags.workday),
+      digit_le (unwrap_or flags.workday false),
+      digit_le (is_none flags.workday),
       digit_le flags.voids.year,
       digit_le flags.voids.date,
       digit_le flags.voids.weekday,

@@ -1,10 +1,8 @@
 -- The flags of a date and time. Assumes nothing.
-use Rattle.std.specs.Prelude.{ℕ, ◌+◌, ◌*◌, ◌%◌, Bool, true, false, cond, not, ◌&&◌, List, [], ◌∷◌, ℤ, pos, Some, Option, ◌==◌, nat_le}
+use Rattle.std.specs.Prelude.{ℕ, ◌+◌, ◌*◌, ◌%◌, Bool, false, cond, not, ◌&&◌, List, [], ◌∷◌, ℤ, pos, Some, None, Option, unwrap_or, is_none, ◌==◌, nat_le}
 use Rattle.datapoint.specs.Shapes.{when, natural}
 use Rattle.moment.specs.declared.flags.Flags.{Flags}
 use Rattle.moment.specs.declared.flags.Voids.{Voids}
-use Rattle.moment.specs.declared.flags.Workday.{Workday}
-use Rattle.moment.specs.declared.flags.Workday.TheVariants.{Untold, Free, Working}
 use Rattle.moment.specs.Bits.{bit, digit}
 use Rattle.clock.specs.Fields.{next, end, ◌>>=◌}
 
@@ -13,21 +11,11 @@ abbrev pub flag_of : ℤ → Option Bool
 flag_of = natural (λ n. when (nat_le n 1) (n == 1))
 
 -- what WD tells, unless NWD voids it
-abbrev pub workday_told : Bool → Bool → Workday
-workday_told wd nwd = cond nwd Untold (cond wd Working Free)
-
-abbrev pub working : Workday → Bool
-working Untold = false
-working Free = false
-working Working = true
-
-abbrev pub untold : Workday → Bool
-untold Untold = true
-untold Free = false
-untold Working = false
+abbrev pub workday_told : Bool → Bool → Option Bool
+workday_told wd nwd = cond nwd None (Some wd)
 
 -- a void WD is 0
-abbrev pub workday_of : List ℤ → Option Workday
+abbrev pub workday_of : List ℤ → Option (Option Bool)
 workday_of = next λ wd. next λ nwd. end do
   w ← flag_of wd
   n ← flag_of nwd
@@ -58,7 +46,7 @@ flags_in octet quality =
 
 abbrev pub flags_octet : Flags → ℕ
 flags_octet flags =
-    128 * digit flags.fault + 64 * digit (working flags.workday) + 32 * digit (untold flags.workday)
+    128 * digit flags.fault + 64 * digit (unwrap_or flags.workday false) + 32 * digit (is_none flags.workday)
     + 16 * digit flags.voids.year + 8 * digit flags.voids.date + 4 * digit flags.voids.weekday + 2 * digit flags.voids.time
     + digit flags.summer
 
@@ -77,6 +65,6 @@ flags_of = next λ f. next λ wd. next λ nwd. next λ ny. next λ nd. next λ n
 
 abbrev pub flags_fields : Flags → List ℤ
 flags_fields flags =
-    pos (digit flags.fault) ∷ (pos (digit (working flags.workday)) ∷ (pos (digit (untold flags.workday)) ∷
+    pos (digit flags.fault) ∷ (pos (digit (unwrap_or flags.workday false)) ∷ (pos (digit (is_none flags.workday)) ∷
     (pos (digit flags.voids.year) ∷ (pos (digit flags.voids.date) ∷ (pos (digit flags.voids.weekday) ∷ (pos (digit flags.voids.time) ∷
     (pos (digit flags.summer) ∷ (pos (digit flags.synchronized) ∷ []))))))))

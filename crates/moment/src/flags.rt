@@ -1,10 +1,10 @@
 // The flags of a date and time.
 ghost use Rattle.std.specs.Prelude.{◌≡◌, ◌<◌};
 ghost use Rattle.moment.specs.Bits.{bit};
-ghost use Rattle.moment.specs.Flags.{flag_of, voids_in, voids_of, workday_told, workday_of, working, untold, flags_in, flags_of, flags_octets, flags_fields};
+ghost use Rattle.moment.specs.Flags.{flag_of, voids_in, voids_of, workday_of, flags_in, flags_of, flags_octets, flags_fields};
 
 // Which fields are void: NY the year, ND the month and day, NDoW the weekday, NT the time.
-#[derive(Clone, Copy)]
+#[derive(Clone, Copy, PartialEq, Eq, Debug)]
 pub struct Voids {
     pub year: bool,
     pub date: bool,
@@ -12,19 +12,12 @@ pub struct Voids {
     pub time: bool,
 }
 
-// What WD tells, unless NWD voids it.
-#[derive(Clone, Copy)]
-pub enum Workday {
-    Untold,
-    Free,
-    Working,
-}
-
-#[derive(Clone, Copy)]
+#[derive(Clone, Copy, PartialEq, Eq, Debug)]
 pub struct Flags {
     // F
     pub fault: bool,
-    pub workday: Workday,
+    // WD, unless NWD voids it.
+    pub workday: Option<bool>,
     pub voids: Voids,
     // SUTI
     pub summer: bool,
@@ -80,48 +73,15 @@ impl Voids {
     }
 }
 
-impl Workday {
-    // What the bits WD and NWD tell.
-    fn told(wd: bool, nwd: bool) -> Workday
-        ensures { result ≡ workday_told wd nwd }
-    {
-        match (wd, nwd) {
-            (_, true) => Workday::Untold,
-            (true, false) => Workday::Working,
-            (false, false) => Workday::Free,
-        }
-    }
-
-    // The workday of its fields.
-    fn of_fields(fields: &[i64]) -> Option<Workday>
-        ensures { result ≡ workday_of fields.now }
-    {
-        match fields {
-            [0, 1] => Some(Workday::Untold),
-            [0, 0] => Some(Workday::Free),
-            [1, 0] => Some(Workday::Working),
-            _ => None,
-        }
-    }
-
-    // WD.
-    pub fn working(&self) -> bool
-        ensures { result ≡ working self.now }
-    {
-        match self {
-            Workday::Working => true,
-            Workday::Untold | Workday::Free => false,
-        }
-    }
-
-    // NWD.
-    pub fn untold(&self) -> bool
-        ensures { result ≡ untold self.now }
-    {
-        match self {
-            Workday::Untold => true,
-            Workday::Free | Workday::Working => false,
-        }
+// The workday of its fields.
+fn workday_of(fields: &[i64]) -> Option<Option<bool>>
+    ensures { result ≡ workday_of fields.now }
+{
+    match fields {
+        [0, 1] => Some(None),
+        [0, 0] => Some(Some(false)),
+        [1, 0] => Some(Some(true)),
+        _ => None,
     }
 }
 
@@ -135,7 +95,7 @@ impl Flags {
         }
         Some(Flags {
             fault: bit(octet, 7),
-            workday: Workday::told(bit(octet, 6), bit(octet, 5)),
+            workday: (!bit(octet, 5)).then_some(bit(octet, 6)),
             voids: Voids::in_octet(octet),
             summer: bit(octet, 0),
             synchronized: bit(quality, 7),
@@ -151,7 +111,7 @@ impl Flags {
         };
         Some(Flags {
             fault: flag(*f)?,
-            workday: Workday::of_fields(&fields[1..3])?,
+            workday: workday_of(&fields[1..3])?,
             voids: Voids::of_fields(&fields[3..7])?,
             summer: flag(*suti)?,
             synchronized: flag(*clq)?,
@@ -164,8 +124,8 @@ impl Flags {
         let voids = self.voids;
         [
             128 * u8::from(self.fault)
-                + 64 * u8::from(self.workday.working())
-                + 32 * u8::from(self.workday.untold())
+                + 64 * u8::from(self.workday.unwrap_or(false))
+                + 32 * u8::from(self.workday.is_none())
                 + 16 * u8::from(voids.year)
                 + 8 * u8::from(voids.date)
                 + 4 * u8::from(voids.weekday)
@@ -182,8 +142,8 @@ impl Flags {
         let voids = self.voids;
         [
             i64::from(self.fault),
-            i64::from(self.workday.working()),
-            i64::from(self.workday.untold()),
+            i64::from(self.workday.unwrap_or(false)),
+            i64::from(self.workday.is_none()),
             i64::from(voids.year),
             i64::from(voids.date),
             i64::from(voids.weekday),
