@@ -1,5 +1,5 @@
 -- Two lawful types joined are a lawful type.
-use Rattle.std.specs.Prelude.{◌≡◌, ℕ, ◌+◌, true, List, ◌++◌, length, take, drop, ℤ, is_some, Some, None, Option, ◌≢◌, slice_index, refl}
+use Rattle.std.specs.Prelude.{◌≡◌, ℕ, ◌+◌, true, List, ◌++◌, length, take, drop, ℤ, is_some, Some, None, Option, slice_index, refl}
 use Rattle.std.proofs.Common.{sym, ap, ap₂, ◌∙◌, arith, lit≤, Fits}
 use Rattle.std.specs.Int.{w8}
 use Rattle.std.proofs.lemmas.List.{length-append, take_at, drop_at, take-append-drop}
@@ -8,9 +8,6 @@ use Rattle.std.proofs.lemmas.Bool.{and_parts, leb-true, cond_both}
 use Rattle.std.specs.List.{AllByRecursion}
 use Rattle.datapoint.specs.Meaning.{Meaning, Lawful, Octets, InRange}
 use Rattle.joined.specs.Joined.{both, halves, appended, none_legal, fit, joined}
-
-never : {A : Type 0} (x : A) → None ≢ Some x
-never x h = let z : ◌≡◌ {A = ℕ} 0 1 = cc in omega arith
 
 module _ {A : Type 0} where
   -- what both halves give, in its two parts
@@ -22,8 +19,8 @@ module _ {A : Type 0} where
     whole : l ≡ first ++ second
 
   parts : (o q : Option (List A)) (l : List A) → both o q ≡ Some l → Parts o q l
-  parts None q l h = absurd (never l h)
-  parts (Some xs) None l h = absurd (never l h)
+  parts None q l h = cc
+  parts (Some xs) None l h = cc
   parts (Some xs) (Some ys) l h = record { first = xs; second = ys; first_is = refl; second_is = refl; whole = cc }
 
   both_some : (o q : Option (List A)) → is_some o ≡ true → is_some q ≡ true → is_some (both o q) ≡ true
@@ -103,12 +100,12 @@ none_legal_lawful = record {
   octets_most = lit≤ tt;
   fields_some = lit≤ tt;
   fields_most = lit≤ tt;
-  sized = λ p xs o h. absurd (never xs h);
-  counted = λ p xs o h. absurd (never xs h);
-  ranged = λ p xs o h. absurd (never xs h);
-  legal = λ p xs o h. absurd (never xs h);
-  octets_made = λ xs p h. absurd (never p h);
-  back = λ xs p h. absurd (never p h);
+  sized = λ p xs o h. cc;
+  counted = λ p xs o h. cc;
+  ranged = λ p xs o h. cc;
+  legal = λ p xs o h. cc;
+  octets_made = λ xs p h. cc;
+  back = λ xs p h. cc;
 }
 
 pub joined_lawful : (a b : Meaning) → Lawful a → Lawful b → Lawful (joined a b)

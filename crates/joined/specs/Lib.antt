@@ -1,3 +1,3 @@
 pub mod Joined
-pub mod After
+pub mod Front
 pub mod Laws

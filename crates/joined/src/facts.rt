@@ -9,6 +9,9 @@ use datapoint::datapoint_type::{Counts, DatapointType};
 use datapoint::refusal::Refusal;
 use octet::range::UpTo;
 
+// A whole octet.
+const OCTET: UpTo = UpTo { highest: 255 };
+
 // A one-bit value with a status octet.
 const BIT_WITH_STATUS: Joined<UpTo, UpTo> = Joined {
     first: UpTo { highest: 1 },
@@ -29,18 +32,23 @@ pub fn bit_without_status(out: &mut [i64]) -> Result<usize, Refusal>
     BIT_WITH_STATUS.read(&[0x01, 0x20], out)
 }
 
+// A type joined with itself.
+fn twice<T: Copy>(half: T) -> Joined<T, T>
+    ensures { result ≡ record { first = half; second = half } }
+{
+    Joined {
+        first: half,
+        second: half,
+    }
+}
+
 // Three octets joined have three octets and three fields.
 pub fn three_octets() -> Counts
     ensures { result ≡ record { octets = 3; fields = 3 } }
 {
-    let octet = UpTo { highest: 255 };
-    let pair = Joined {
-        first: octet,
-        second: octet,
-    };
     Joined {
-        first: octet,
-        second: pair,
+        first: OCTET,
+        second: twice(OCTET),
     }
     .counts()
 }
@@ -49,22 +57,10 @@ pub fn three_octets() -> Counts
 pub fn sixteen_octets() -> Counts
     ensures { result ≡ record { octets = 14; fields = 16 } }
 {
-    let octet = UpTo { highest: 255 };
-    let two = Joined {
-        first: octet,
-        second: octet,
-    };
-    let four = Joined {
-        first: two,
-        second: two,
-    };
-    let eight = Joined {
-        first: four,
-        second: four,
-    };
+    let four = twice(twice(OCTET));
     Joined {
-        first: eight,
-        second: eight,
+        first: twice(four),
+        second: twice(four),
     }
     .counts()
 }

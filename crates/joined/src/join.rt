@@ -1,12 +1,14 @@
 // Two types joined into one.
-ghost use Rattle.std.specs.Prelude.{◌≡◌, ◌+◌, ◌≤◌, [], length, take, IfOk};
-ghost use Rattle.datapoint.specs.declared.refusal.Refusal.TheVariants.{IllegalPayload, IllegalReading};
-ghost use Rattle.datapoint.specs.Calls.{counts_of};
+ghost use Rattle.std.specs.Prelude.{◌≡◌, ◌+◌, ◌≤◌, ◌==◌, length, IfOk};
+ghost use Rattle.std.specs.Option.{ok_or};
+ghost use Rattle.datapoint.specs.Refusals.{answer};
+ghost use Rattle.datapoint.specs.Calls.{counts_of, sized_or, delivered_or};
 ghost use Rattle.datapoint.specs.Shapes.{when};
-ghost use Rattle.joined.specs.Joined.{appended, fit, joined};
-ghost use Rattle.joined.specs.After.{front, followed};
+ghost use Rattle.joined.specs.Joined.{halves, appended, fit, joined};
+ghost use Rattle.joined.specs.Front.{front};
 ghost use Rattle.joined.specs.Laws.{joined_lawful};
 
+use crate::direction::{Direction, Reading, Writing};
 use datapoint::datapoint_type::{Counts, DatapointType};
 use datapoint::front::deliver;
 use datapoint::refusal::Refusal;
@@ -27,77 +29,54 @@ pub struct Joined<A, B> {
 impl<A: DatapointType, B: DatapointType> Joined<A, B> {
     // The counts of both halves together, where a type can have so many.
     fn sums(&self) -> Option<Counts>
-        ensures { result ≡ when (fit (A.DatapointType.meaning self.now.first) (B.DatapointType.meaning self.now.second)) (counts_of (appended (A.DatapointType.meaning self.now.first) (B.DatapointType.meaning self.now.second))) }
+        ensures { let a = A.meaning self.now.first in
+            let b = B.meaning self.now.second in
+            result ≡ when (fit a b) (counts_of (appended a b)) }
     {
         let first = self.first.counts();
         let second = self.second.counts();
         let octets = first.octets + second.octets;
         let fields = first.fields + second.fields;
-        if octets <= MOST_OCTETS && fields <= MOST_FIELDS {
-            Some(Counts { octets, fields })
-        } else {
-            None
+        (octets <= MOST_OCTETS && fields <= MOST_FIELDS).then_some(Counts { octets, fields })
+    }
+
+    // Makes the items of both halves at the front of `out`, and answers where they end.
+    // A refusal may leave the first half there.
+    fn both<D: Direction>(&self, items: &[D::From], out: &mut [D::To]) -> Result<usize, Refusal>
+        requires due { length items.now ≡ D.due (counts_of (A.meaning self.now.first)) + D.due (counts_of (B.meaning self.now.second)) }
+        requires room { D.made (counts_of (A.meaning self.now.first)) + D.made (counts_of (B.meaning self.now.second)) ≤ length out.old }
+        ensures holds { let a = A.meaning self.now.first in
+            let b = B.meaning self.now.second in
+            front result out.new ≡ ok_or (halves (D.due (counts_of a)) (D.makes a) (D.makes b) items.now) D.REFUSAL }
+        ensures ends { IfOk result (λ end. end ≡ D.made (counts_of (A.meaning self.now.first)) + D.made (counts_of (B.meaning self.now.second))) }
+    {
+        let (first, second) = items.split_at(D::due(self.first.counts()));
+        let middle = D::run(&self.first, first, out)?;
+        let rest = D::run(&self.second, second, &mut out[middle..])?;
+        Ok(middle + rest)
+    }
+
+    // Makes the items of both halves in `space`, and delivers them.
+    fn run<D: Direction>(
+        &self,
+        items: &[D::From],
+        space: &mut [D::To],
+        out: &mut [D::To],
+    ) -> Result<usize, Refusal>
+        requires room { D.made (counts_of (joined (A.meaning self.now.first) (B.meaning self.now.second))) ≤ length space.old }
+        ensures { let m = joined (A.meaning self.now.first) (B.meaning self.now.second) in
+            let due = D.due (counts_of m) in
+            (answer result, out.new) ≡ sized_or (length items.now == due) due (delivered_or D.REFUSAL (D.makes m items.now) out.old) out.old }
+    {
+        let due = D::due(self.counts());
+        if items.len() != due {
+            return Err(Refusal::WrongLength { due });
         }
-    }
-
-    // Reads both halves into the front of `out`, and answers where the reading ends. A refusal may leave the first half there.
-    fn read_both(&self, payload: &[u8], out: &mut [i64]) -> Result<usize, Refusal>
-        requires due { length payload.now ≡ (appended (A.DatapointType.meaning self.now.first) (B.DatapointType.meaning self.now.second)).octets }
-        requires room { (appended (A.DatapointType.meaning self.now.first) (B.DatapointType.meaning self.now.second)).fields ≤ length out.old }
-        ensures holds { front result out.new ≡ followed IllegalPayload [] ((appended (A.DatapointType.meaning self.now.first) (B.DatapointType.meaning self.now.second)).reading payload.now) }
-        ensures ends { IfOk result (λ end. end ≡ (appended (A.DatapointType.meaning self.now.first) (B.DatapointType.meaning self.now.second)).fields) }
-    {
-        let (first, second) = payload.split_at(self.first.counts().octets);
-        let middle = read_after(&self.first, first, out, 0)?;
-        read_after(&self.second, second, out, middle)
-    }
-
-    // Writes both halves into the front of `out`, and answers where the payload ends. A refusal may leave the first half there.
-    fn write_both(&self, reading: &[i64], out: &mut [u8]) -> Result<usize, Refusal>
-        requires due { length reading.now ≡ (appended (A.DatapointType.meaning self.now.first) (B.DatapointType.meaning self.now.second)).fields }
-        requires room { (appended (A.DatapointType.meaning self.now.first) (B.DatapointType.meaning self.now.second)).octets ≤ length out.old }
-        ensures holds { front result out.new ≡ followed IllegalReading [] ((appended (A.DatapointType.meaning self.now.first) (B.DatapointType.meaning self.now.second)).payload reading.now) }
-        ensures ends { IfOk result (λ end. end ≡ (appended (A.DatapointType.meaning self.now.first) (B.DatapointType.meaning self.now.second)).octets) }
-    {
-        let (first, second) = reading.split_at(self.first.counts().fields);
-        let middle = write_after(&self.first, first, out, 0)?;
-        write_after(&self.second, second, out, middle)
-    }
-}
-
-// Reads a half's payload into the part of `out` that starts at `start`, and answers where the reading ends.
-fn read_after<T: DatapointType>(
-    half: &T,
-    payload: &[u8],
-    out: &mut [i64],
-    start: usize,
-) -> Result<usize, Refusal>
-    requires due { length payload.now ≡ (T.meaning half.now).octets }
-    requires room { start + (T.meaning half.now).fields ≤ length out.old }
-    ensures holds { front result out.new ≡ followed IllegalPayload (take start out.old) ((T.meaning half.now).reading payload.now) }
-    ensures ends { IfOk result (λ end. end ≡ start + (T.meaning half.now).fields) }
-{
-    match half.read(payload, &mut out[start..]) {
-        Ok(fields) => Ok(start + fields),
-        Err(_) => Err(Refusal::IllegalPayload),
-    }
-}
-
-// Writes a half's reading into the part of `out` that starts at `start`, and answers where the payload ends.
-fn write_after<T: DatapointType>(
-    half: &T,
-    reading: &[i64],
-    out: &mut [u8],
-    start: usize,
-) -> Result<usize, Refusal>
-    requires due { length reading.now ≡ (T.meaning half.now).fields }
-    requires room { start + (T.meaning half.now).octets ≤ length out.old }
-    ensures holds { front result out.new ≡ followed IllegalReading (take start out.old) ((T.meaning half.now).payload reading.now) }
-    ensures ends { IfOk result (λ end. end ≡ start + (T.meaning half.now).octets) }
-{
-    match half.write(reading, &mut out[start..]) {
-        Ok(octets) => Ok(start + octets),
-        Err(_) => Err(Refusal::IllegalReading),
+        if self.sums().is_none() {
+            return Err(D::REFUSAL);
+        }
+        let end = self.both::<D>(items, space)?;
+        deliver(&space[0..end], out)
     }
 }
 
@@ -107,38 +86,17 @@ impl<A: DatapointType, B: DatapointType> DatapointType for Joined<A, B> {
     ghost lawful = { λ s. joined_lawful _ _ (A.DatapointType.lawful s.first) (B.DatapointType.lawful s.second) };
 
     fn counts(&self) -> Counts {
-        match self.sums() {
-            Some(sums) => sums,
-            None => Counts {
-                octets: MOST_OCTETS,
-                fields: MOST_FIELDS,
-            },
-        }
+        self.sums().unwrap_or(Counts {
+            octets: MOST_OCTETS,
+            fields: MOST_FIELDS,
+        })
     }
 
     fn read(&self, payload: &[u8], out: &mut [i64]) -> Result<usize, Refusal> {
-        let due = self.counts().octets;
-        if payload.len() != due {
-            return Err(Refusal::WrongLength { due });
-        }
-        if self.sums().is_none() {
-            return Err(Refusal::IllegalPayload);
-        }
-        let mut reading = [0i64; MOST_FIELDS];
-        let end = self.read_both(payload, &mut reading)?;
-        deliver(&reading[0..end], out)
+        self.run::<Reading>(payload, &mut [0; MOST_FIELDS], out)
     }
 
     fn write(&self, reading: &[i64], out: &mut [u8]) -> Result<usize, Refusal> {
-        let due = self.counts().fields;
-        if reading.len() != due {
-            return Err(Refusal::WrongLength { due });
-        }
-        if self.sums().is_none() {
-            return Err(Refusal::IllegalReading);
-        }
-        let mut payload = [0u8; MOST_OCTETS];
-        let end = self.write_both(reading, &mut payload)?;
-        deliver(&payload[0..end], out)
+        self.run::<Writing>(reading, &mut [0; MOST_OCTETS], out)
     }
 }
