@@ -5,7 +5,7 @@ ghost use Rattle.datapoint.specs.Shapes.{natural};
 ghost use Rattle.clock.specs.Calendar.{on_calendar, calendar_date, DayMonthYear};
 
 // A day of a month, of a year that may not be told.
-#[derive(Clone, Copy)]
+#[derive(Clone, Copy, PartialEq, Eq, Debug)]
 pub struct Date {
     day: u8,
     month: u8,
@@ -28,10 +28,9 @@ impl Date {
     pub fn of_fields(day: i64, month: i64, year: Option<u16>) -> Option<Date>
         ensures { option_map {U = DayMonthYear} (λ date. (date.day, date.month, date.year)) result ≡ natural (λ d. natural (λ m. calendar_date d m year) month) day }
     {
-        match (u8::try_from(day), u8::try_from(month)) {
-            (Ok(day), Ok(month)) => Date::new(day, month, year),
-            _ => None,
-        }
+        let day = u8::try_from(day).ok()?;
+        let month = u8::try_from(month).ok()?;
+        Date::new(day, month, year)
     }
 
     pub fn day(&self) -> u8

@@ -8,7 +8,7 @@ use datapoint::datapoint_type::{Counts, DatapointType};
 use datapoint::front::deliver;
 use datapoint::refusal::Refusal;
 
-#[derive(Clone, Copy)]
+#[derive(Clone, Copy, PartialEq, Eq, Debug)]
 pub struct DateOnly;
 
 // The year of its last two digits.
@@ -37,17 +37,15 @@ impl DatapointType for DateOnly {
         match payload {
             [day, month, digits @ 0..=99] => {
                 let year = year_of(*digits);
-                match Date::new(*day, *month, Some(year)) {
-                    Some(date) => deliver(
-                        &[
-                            i64::from(date.day()),
-                            i64::from(date.month()),
-                            i64::from(year),
-                        ],
-                        out,
-                    ),
-                    None => Err(Refusal::IllegalPayload),
-                }
+                let date = Date::new(*day, *month, Some(year)).ok_or(Refusal::IllegalPayload)?;
+                deliver(
+                    &[
+                        i64::from(date.day()),
+                        i64::from(date.month()),
+                        i64::from(year),
+                    ],
+                    out,
+                )
             }
             [_, _, _] => Err(Refusal::IllegalPayload),
             _ => Err(Refusal::WrongLength { due: 3 }),
@@ -61,9 +59,7 @@ impl DatapointType for DateOnly {
         let Ok(year @ 1990..=2089) = u16::try_from(*year) else {
             return Err(Refusal::IllegalReading);
         };
-        match Date::of_fields(*day, *month, Some(year)) {
-            Some(date) => deliver(&[date.day(), date.month(), (year % 100) as u8], out),
-            None => Err(Refusal::IllegalReading),
-        }
+        let date = Date::of_fields(*day, *month, Some(year)).ok_or(Refusal::IllegalReading)?;
+        deliver(&[date.day(), date.month(), (year % 100) as u8], out)
     }
 }

@@ -11,7 +11,6 @@ use Rattle.clock.specs.Fields.{octet_of}
 use Rattle.moment.specs.Bits.{digit}
 use Rattle.moment.specs.Flags.{flag_of}
 use Rattle.moment.specs.Voidable.{unless, years_of}
-use Rattle.clock.specs.Taken.{none_made}
 
 -- numbers below 65536 are in range
 pub in_range : (ns : List ℕ) → AllByRecursion (λ n. n < 65536) ns → AllByRecursion InRange (map pos ns)
@@ -20,7 +19,7 @@ in_range (n ∷ ns) h = let small = h.0 in (grind (arith, ints), in_range ns h.1
 
 pub octet_was : (x : ℤ) (n : ℕ) → octet_of x ≡ Some n → (x ≡ pos n) × (n < 256)
 octet_was (pos m) n e = grind (arith, nat_tests)
-octet_was (negsuc m) n e = none_made e
+octet_was (negsuc m) n e = cc
 
 pub octet_back : (n : ℕ) → n < 256 → octet_of (pos n) ≡ Some n
 octet_back n h = ap (λ (t : Bool). when t n) (lt-ltb n 256 h)
@@ -28,8 +27,8 @@ octet_back n h = ap (λ (t : Bool). when t n) (lt-ltb n 256 h)
 pub flag_was : (x : ℤ) (b : Bool) → flag_of x ≡ Some b → x ≡ pos (digit b)
 flag_was (pos m) true e = grind (arith, nat_tests)
 flag_was (pos m) false e = grind (arith, nat_tests)
-flag_was (negsuc m) true e = none_made e
-flag_was (negsuc m) false e = none_made e
+flag_was (negsuc m) true e = cc
+flag_was (negsuc m) false e = cc
 
 pub flag_back : (b : Bool) → flag_of (pos (digit b)) ≡ Some b
 flag_back true = refl
@@ -46,9 +45,9 @@ unless_le false x = omega arith
 
 pub years_was : (void : Bool) (x : ℤ) (n : ℕ) → years_of void x ≡ Some n → (x ≡ pos (unless void (1900 + n))) × (n < 256) × (unless void n ≡ n)
 years_was true (pos m) n e = grind (arith, nat_tests)
-years_was true (negsuc m) n e = none_made e
+years_was true (negsuc m) n e = cc
 years_was false (pos m) n e = grind (arith, nat_tests)
-years_was false (negsuc m) n e = none_made e
+years_was false (negsuc m) n e = cc
 
 pub years_back : (void : Bool) (n : ℕ) → n < 256 → unless void n ≡ n → years_of void (pos (unless void (1900 + n))) ≡ Some n
 years_back true n h e = ap Some e
