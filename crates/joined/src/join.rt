@@ -4,7 +4,7 @@ ghost use Rattle.std.specs.Option.{ok_or};
 ghost use Rattle.datapoint.specs.Refusals.{answer};
 ghost use Rattle.datapoint.specs.Calls.{counts_of, sized_or, delivered_or};
 ghost use Rattle.datapoint.specs.Shapes.{when};
-ghost use Rattle.joined.specs.Joined.{halves, appended, fit, joined};
+ghost use Rattle.joined.specs.Joined.{both, appended, fit, joined};
 ghost use Rattle.joined.specs.Front.{front};
 ghost use Rattle.joined.specs.Laws.{joined_lawful};
 
@@ -42,15 +42,18 @@ impl<A: DatapointType, B: DatapointType> Joined<A, B> {
 
     // Makes the items of both halves at the front of `out`, and answers where they end.
     // A refusal may leave the first half there.
-    fn both<D: Direction>(&self, items: &[D::From], out: &mut [D::To]) -> Result<usize, Refusal>
-        requires due { length items.now ≡ D.due (counts_of (A.meaning self.now.first)) + D.due (counts_of (B.meaning self.now.second)) }
+    fn both<D: Direction>(
+        &self,
+        first: &[D::From],
+        second: &[D::From],
+        out: &mut [D::To],
+    ) -> Result<usize, Refusal>
+        requires due_first { length first.now ≡ D.due (counts_of (A.meaning self.now.first)) }
+        requires due_second { length second.now ≡ D.due (counts_of (B.meaning self.now.second)) }
         requires room { D.made (counts_of (A.meaning self.now.first)) + D.made (counts_of (B.meaning self.now.second)) ≤ length out.old }
-        ensures holds { let a = A.meaning self.now.first in
-            let b = B.meaning self.now.second in
-            front result out.new ≡ ok_or (halves (D.due (counts_of a)) (D.makes a) (D.makes b) items.now) D.REFUSAL }
+        ensures holds { front result out.new ≡ ok_or (both (D.makes (A.meaning self.now.first) first.now) (D.makes (B.meaning self.now.second) second.now)) D.REFUSAL }
         ensures ends { IfOk result (λ end. end ≡ D.made (counts_of (A.meaning self.now.first)) + D.made (counts_of (B.meaning self.now.second))) }
     {
-        let (first, second) = items.split_at(D::due(self.first.counts()));
         let middle = D::run(&self.first, first, out)?;
         let rest = D::run(&self.second, second, &mut out[middle..])?;
         Ok(middle + rest)
@@ -75,7 +78,8 @@ impl<A: DatapointType, B: DatapointType> Joined<A, B> {
         if self.sums().is_none() {
             return Err(D::REFUSAL);
         }
-        let end = self.both::<D>(items, space)?;
+        let (first, second) = items.split_at(D::due(self.first.counts()));
+        let end = self.both::<D>(first, second, space)?;
         deliver(&space[0..end], out)
     }
 }
