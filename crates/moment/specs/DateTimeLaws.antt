@@ -1,5 +1,5 @@
 -- The laws of the date and time. Assumes nothing.
-use Rattle.std.specs.Prelude.{◌≡◌, ℕ, ◌+◌, ◌*◌, ◌/◌, ◌%◌, ◌<◌, List, ◌++◌, length, take, drop, ℤ, is_some, Some, Option, refl}
+use Rattle.std.specs.Prelude.{◌≡◌, ℕ, ◌<◌, List, ◌++◌, length, take, drop, ℤ, is_some, is_none, Some, Option, refl}
 use Rattle.std.proofs.Common.{sym, ap, ap₂, ◌∙◌, arith}
 use Rattle.std.proofs.ByRecursion.{All-append}
 use Rattle.std.proofs.lemmas.List.{drop-drop, take-append-drop}
@@ -13,49 +13,38 @@ use Rattle.moment.specs.declared.parts.TimePart.{TimePart}
 use Rattle.clock.specs.Fields.{◌>>=◌}
 use Rattle.moment.specs.Flags.{flags_in, flags_of, flags_octets, flags_fields}
 use Rattle.moment.specs.Voidable.{date_in, date_of, date_octets, date_fields, time_in, time_of, time_octets, time_fields}
-use Rattle.moment.specs.DateTime.{moment_in, moment_of, moment_octets, moment_fields, date_time}
+use Rattle.moment.specs.DateTime.{moment_told, flags_told, moment_in, moment_of, moment_octets, moment_fields, date_time}
 use Rattle.clock.specs.Taken.{by_next, by_end, by_bind, by_some, by_mapped}
 use Rattle.clock.specs.Both.{Reads, Writes, lawful_both}
-use Rattle.moment.specs.PartLaws.{ProperDate, date_read, date_again, date_written, date_back, date_octets_made, date_ranged, TimeFits, ProperTime, time_read, time_again, time_written, time_back, time_octets_made, time_ranged}
+use Rattle.moment.specs.PartLaws.{ProperDate, date_read, date_again, date_written, date_back, date_octets_made, date_ranged, ProperTime, time_read, time_again, time_written, time_back, time_octets_made, time_ranged}
 use Rattle.moment.specs.FlagLaws.{flags_were, flags_back, flags_again, flags_octets_made, flags_ranged}
 
 pub record ProperMoment (m : Moment) : Type 0 where
-  pub date_is : ProperDate m.flags.voids m.date
-  pub time_is : ProperTime m.flags.voids m.time
+  pub date_is : ProperDate m.date
+  pub time_is : ProperTime m.time
 
 -- with the flags and the date of a reading, its time decides
 pub decided :
     (xs : List ℤ) (flags : Flags) (date : DatePart) (time : Option TimePart) → flags_of (drop 7 xs) ≡ Some flags →
     date_of flags.voids (take 3 xs) ≡ Some date → time_of flags.voids (take 4 (drop 3 xs)) ≡ time →
-    moment_of xs ≡ (time >>= λ t. Some (record { flags = flags; date = date; time = t }))
+    moment_of xs ≡ (time >>= λ t. Some (moment_told flags date t))
 decided xs flags date time f d t =
-    let told : Flags → DatePart → TimePart → Option Moment = λ f d t. Some (record { flags = f; date = d; time = t }) in
+    let told : Flags → DatePart → TimePart → Option Moment = λ f d t. Some (moment_told f d t) in
     ap (λ (o : Option Flags). o >>= λ f. date_of f.voids (take 3 xs) >>= λ d. time_of f.voids (take 4 (drop 3 xs)) >>= told f d) f
     ∙ (ap (λ (o : Option DatePart). o >>= λ d. time_of flags.voids (take 4 (drop 3 xs)) >>= told flags d) d
     ∙ ap (λ (o : Option TimePart). o >>= told flags date) t)
 
--- the parts that the flags leave legal are proper
-beside_proper :
-    (octet quality : ℕ) (date : DatePart) (time : TimePart) → date.years < 256 → TimeFits time → (m : Moment) →
-    (flags_in octet quality >>= λ f. date_in f.voids date >>= λ d. time_in f.voids time >>= λ t. Some (record { flags = f; date = d; time = t })) ≡ Some m →
-    ProperMoment m
-beside_proper octet quality date time y f =
-    by_bind (flags_in octet quality) _ _ λ flags ef. by_bind (date_in flags.voids date) _ _ λ d ed. by_bind (time_in flags.voids time) _ _ λ t et. by_some _ _
-    (record { date_is = date_read flags.voids date y d ed; time_is = time_read flags.voids time f t et })
-
 moment_read : (p : List ℕ) (m : Moment) → moment_in p ≡ Some m → Octets p → ProperMoment m × (length p ≡ 8)
 moment_read =
     by_next _ _ λ years. by_next _ _ λ month. by_next _ _ λ day. by_next _ _ λ first. by_next _ _ λ minute. by_next _ _ λ second. by_next _ _ λ octet. by_next _ _ λ quality.
-    by_end _ _ (λ m e os. (
-      beside_proper octet quality (record { years = years; month = month; day = day })
-          (record { weekday = first / 32; hour = first % 32; minute = minute; second = second }) os.0 (omega (arith, os.1.1.1.0)) m e,
-      refl,
-    ))
+    by_end _ _ (
+    by_bind (flags_in octet quality) _ _ λ flags ef. by_bind (date_in flags.voids years month day) _ _ λ date ed. by_bind (time_in flags.voids first minute second) _ _ λ time et. by_some _ _ λ os.
+    (record { date_is = date_read flags.voids years month day os.0 date ed; time_is = time_read flags.voids first minute second os.1.1.1.0 time et }, refl))
 
 moment_back : (m : Moment) → ProperMoment m → moment_of (moment_fields m) ≡ Some m
 moment_back m p =
-    decided (moment_fields m) m.flags m.date (Some m.time) (flags_back m.flags) (date_back m.flags.voids m.date p.date_is)
-    (time_back m.flags.voids m.time p.time_is)
+    decided (moment_fields m) (flags_told m) m.date (Some m.time) (flags_back (flags_told m)) (date_back m.date p.date_is (is_none m.time.weekday) (is_none m.time.clock))
+    (time_back m.time p.time_is (is_none m.date.years) (is_none m.date.day))
 
 rejoined : (xs : List ℤ) → take 3 xs ++ (take 4 (drop 3 xs) ++ drop 7 xs) ≡ xs
 rejoined xs =
@@ -67,42 +56,23 @@ moment_written xs =
     by_bind (flags_of (drop 7 xs)) _ _ λ flags ef. by_bind (date_of flags.voids (take 3 xs)) _ _ λ date ed. by_bind (time_of flags.voids (take 4 (drop 3 xs))) _ _ λ time et. by_some _ _ (
     let dw = date_written flags.voids (take 3 xs) date ed in
     let tw = time_written flags.voids (take 4 (drop 3 xs)) time et in
-    let fw = flags_were (drop 7 xs) flags ef in
+    let told : flags_told (moment_told flags date time) ≡ flags = λ i. record {
+      fault = flags.fault;
+      workday = flags.workday;
+      voids = record { year = sym dw.year_void i; date = sym dw.date_void i; weekday = sym tw.weekday_void i; time = sym tw.time_void i };
+      summer = flags.summer;
+      synchronized = flags.synchronized;
+    } in
+    let fw = ap flags_fields told ∙ flags_were (drop 7 xs) flags ef in
     (record { date_is = dw.proper; time_is = tw.proper }, ap₂ ◌++◌ dw.fields_are (ap₂ ◌++◌ tw.fields_are fw) ∙ rejoined xs))
 
--- a weekday and an hour come back out of their octet
-unpacked :
-    (t : TimePart) → t.weekday < 8 → t.hour < 32 →
-    ◌≡◌ {A = TimePart}
-    (record {
-      weekday = (32 * (t.weekday % 8) + t.hour % 32) / 32;
-      hour = (32 * (t.weekday % 8) + t.hour % 32) % 32;
-      minute = t.minute;
-      second = t.second;
-    })
-    t
-unpacked t w h =
-    let weekday : (32 * (t.weekday % 8) + t.hour % 32) / 32 ≡ t.weekday = omega arith in
-    let hour : (32 * (t.weekday % 8) + t.hour % 32) % 32 ≡ t.hour = omega arith in
-    λ i. record { weekday = weekday i; hour = hour i; minute = t.minute; second = t.second }
-
 moment_again : (m : Moment) → ProperMoment m → moment_in (moment_octets m) ≡ Some m
-moment_again m p =
-    let voids = m.flags.voids in
-    let told : Flags → DatePart → TimePart → Option Moment = λ f d t. Some (record { flags = f; date = d; time = t }) in
-    let packed = (32 * (m.time.weekday % 8) + m.time.hour % 32) in
-    let time : TimePart = record { weekday = packed / 32; hour = packed % 32; minute = m.time.minute; second = m.time.second } in
-    let fits = p.time_is.fits in
-    ap (λ (o : Option Flags). o >>= λ f. date_in f.voids m.date >>= λ d. time_in f.voids time >>= told f d) (flags_again m.flags)
-    ∙ (ap (λ (o : Option DatePart). o >>= λ d. time_in voids time >>= told m.flags d) (date_again voids m.date p.date_is)
-    ∙ ap (λ (o : Option TimePart). o >>= told m.flags m.date)
-    (ap (time_in voids) (unpacked m.time fits.0 fits.1) ∙ time_again voids m.time p.time_is))
+moment_again m p = rw (flags_again (flags_told m), date_again m.date p.date_is _ _, time_again m.time p.time_is _ _)
 
 ranged : (m : Moment) → ProperMoment m → AllByRecursion InRange (moment_fields m)
 ranged m p =
-    let voids = m.flags.voids in
-    All-append InRange (date_fields voids m.date) (time_fields m.time ++ flags_fields m.flags) (date_ranged voids m.date p.date_is)
-    (All-append InRange (time_fields m.time) (flags_fields m.flags) (time_ranged voids m.time p.time_is) (flags_ranged m.flags))
+    All-append InRange (date_fields m.date) (time_fields m.time ++ flags_fields (flags_told m)) (date_ranged m.date p.date_is)
+    (All-append InRange (time_fields m.time) (flags_fields (flags_told m)) (time_ranged m.time p.time_is) (flags_ranged (flags_told m)))
 
 reads : (p : List ℕ) (xs : List ℤ) → date_time.reading p ≡ Some xs → Octets p → Reads date_time p xs
 reads p =
@@ -119,11 +89,10 @@ writes : (xs : List ℤ) (p : List ℕ) → date_time.payload xs ≡ Some p → 
 writes xs =
     by_mapped moment_octets (moment_of xs) _ λ m e.
     let written = moment_written xs m e in
-    let voids = m.flags.voids in
     record {
       octets_made =
-          All-append (λ b. b < 256) (date_octets m.date) (time_octets m.time ++ flags_octets m.flags) (date_octets_made voids m.date written.0.date_is)
-          (All-append (λ b. b < 256) (time_octets m.time) (flags_octets m.flags) (time_octets_made voids m.time written.0.time_is) (flags_octets_made m.flags));
+          All-append (λ b. b < 256) (date_octets m.date) (time_octets m.time ++ flags_octets (flags_told m)) (date_octets_made m.date written.0.date_is)
+          (All-append (λ b. b < 256) (time_octets m.time) (flags_octets (flags_told m)) (time_octets_made m.time written.0.time_is) (flags_octets_made (flags_told m)));
       back = ap (option_map moment_fields) (moment_again m written.0) ∙ ap Some written.1;
     }
 

@@ -1,19 +1,41 @@
 // What a date and time tells.
 ghost use Rattle.std.specs.Prelude.{◌≡◌};
 ghost use Rattle.std.specs.Option.{option_map};
-ghost use Rattle.moment.specs.DateTime.{moment_in, moment_of, moment_fields, moment_octets};
+ghost use Rattle.moment.specs.DateTime.{moment_told, moment_in, moment_of, moment_fields, moment_octets};
 
 use crate::flags::Flags;
-use crate::parts::{DatePart, TimePart};
+use crate::parts::{DatePart, TimePart, year_told};
 
-#[derive(Clone, Copy)]
+// A date, a time, and what the flags tell besides what is void.
+#[derive(Clone, Copy, PartialEq, Eq, Debug)]
 pub struct Moment {
-    flags: Flags,
-    date: DatePart,
-    time: TimePart,
+    pub date: DatePart,
+    pub time: TimePart,
+    // F
+    pub fault: bool,
+    // WD, unless NWD voids it.
+    pub workday: Option<bool>,
+    // SUTI
+    pub summer: bool,
+    // CLQ
+    pub synchronized: bool,
 }
 
 impl Moment {
+    // The moment of its flags, its date and its time.
+    fn new(flags: Flags, date: DatePart, time: TimePart) -> Moment
+        ensures { result ≡ moment_told flags date time }
+    {
+        Moment {
+            date,
+            time,
+            fault: flags.fault,
+            workday: flags.workday,
+            summer: flags.summer,
+            synchronized: flags.synchronized,
+        }
+    }
+
     // The moment in a payload.
     pub fn in_octets(payload: &[u8]) -> Option<Moment>
         ensures { result ≡ moment_in payload.now }
@@ -22,20 +44,9 @@ impl Moment {
             return None;
         };
         let flags = Flags::in_octets(*octet, *quality)?;
-        let date = DatePart {
-            years: *years,
-            month: *month,
-            day: *day,
-        }
-        .in_octets(flags.voids)?;
-        let time = TimePart {
-            weekday: *first / 32,
-            hour: *first % 32,
-            minute: *minute,
-            second: *second,
-        };
-        let time = time.in_octets(flags.voids)?;
-        Some(Moment { flags, date, time })
+        let date = DatePart::in_octets(flags.voids, *years, *month, *day)?;
+        let time = TimePart::in_octets(flags.voids, *first, *minute, *second)?;
+        Some(Moment::new(flags, date, time))
     }
 
     // The moment of a reading.
@@ -48,29 +59,62 @@ impl Moment {
         let flags = Flags::of_fields(&reading[7..])?;
         let date = DatePart::of_fields(flags.voids, &reading[0..3])?;
         let time = TimePart::of_fields(flags.voids, &reading[3..7])?;
-        Some(Moment { flags, date, time })
+        Some(Moment::new(flags, date, time))
     }
 
-    // Its reading.
+    // Its reading, where what is void is 0.
     pub fn fields(&self) -> [i64; 16]
         ensures { result ≡ moment_fields self.now }
     {
-        let mut fields = [0; 16];
-        fields[0..3].copy_from_slice(&self.date.fields(self.flags.voids));
-        fields[3..7].copy_from_slice(&self.time.fields());
-        fields[7..16].copy_from_slice(&self.flags.fields());
-        fields
+        let DatePart { years, day } = self.date;
+        let TimePart { weekday, clock } = self.time;
+        let (month_number, day_number) = day.unwrap_or((0, 0));
+        let (hour, minute, second) = clock.unwrap_or((0, 0, 0));
+        [
+            i64::from(year_told(years).unwrap_or(0)),
+            i64::from(month_number),
+            i64::from(day_number),
+            i64::from(weekday.unwrap_or(0)),
+            i64::from(hour),
+            i64::from(minute),
+            i64::from(second),
+            i64::from(self.fault),
+            i64::from(self.workday.unwrap_or(false)),
+            i64::from(self.workday.is_none()),
+            i64::from(years.is_none()),
+            i64::from(day.is_none()),
+            i64::from(weekday.is_none()),
+            i64::from(clock.is_none()),
+            i64::from(self.summer),
+            i64::from(self.synchronized),
+        ]
     }
 
-    // Its proper payload.
+    // Its proper payload, where what is void is 0.
     pub fn octets(&self) -> [u8; 8]
         ensures { result ≡ moment_octets self.now }
     {
-        let mut octets = [0; 8];
-        octets[0..3].copy_from_slice(&self.date.octets());
-        octets[3..6].copy_from_slice(&self.time.octets());
-        octets[6..8].copy_from_slice(&self.flags.octets());
-        octets
+        let DatePart { years, day } = self.date;
+        let TimePart { weekday, clock } = self.time;
+        let (month_number, day_number) = day.unwrap_or((0, 0));
+        let (hour, minute, second) = clock.unwrap_or((0, 0, 0));
+        [
+            years.unwrap_or(0),
+            month_number,
+            day_number,
+            32 * (weekday.unwrap_or(0) % 8) + hour % 32,
+            minute,
+            second,
+            128 * u8::from(self.fault)
+                + 64 * u8::from(self.workday.unwrap_or(false))
+                + 32 * u8::from(self.workday.is_none())
+                + 16 * u8::from(years.is_none())
+                + 8 * u8::from(day.is_none())
+                + 4 * u8::from(weekday.is_none())
+                + 2 * u8::from(clock.is_none())
+                + u8::from(self.summer),
+            128 * u8::from(self.synchronized),
+        ]
     }
 
     // The reading of a payload.

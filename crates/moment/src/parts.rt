@@ -1,245 +1,148 @@
-// A date and a time, each of which may be void.
-ghost use Rattle.std.specs.Prelude.{◌≡◌};
-ghost use Rattle.datapoint.specs.Shapes.{when};
-ghost use Rattle.clock.specs.Fields.{octet_of};
-ghost use Rattle.moment.specs.Voidable.{unless, told, years_of, date_stands, date_cleared, date_in, date_numbers, date_of, date_octets, date_fields, to_midnight, time_stands, time_cleared, time_in, time_numbers, time_of, time_octets, time_fields};
+// A date and a time, parts of which may be void.
+ghost use Rattle.std.specs.Prelude.{◌≡◌, Option};
+ghost use Rattle.moment.specs.Voidable.{years_of, year_told, month_day, weekday_of, clock_time, clock_of, date_in, date_of, time_in, time_of};
 
 use crate::flags::Voids;
 use clock::calendar::Date;
 
-// A date as a payload has it, by the years after 1900.
-#[derive(Clone, Copy)]
+// A date, each part None where it is void.
+#[derive(Clone, Copy, PartialEq, Eq, Debug)]
 pub struct DatePart {
-    pub years: u8,
-    pub month: u8,
-    pub day: u8,
+    // The years after 1900.
+    pub years: Option<u8>,
+    // The month and the day.
+    pub day: Option<(u8, u8)>,
 }
 
-// A time as a payload has it.
-#[derive(Clone, Copy)]
+// A weekday and a time, each None where it is void.
+#[derive(Clone, Copy, PartialEq, Eq, Debug)]
 pub struct TimePart {
-    pub weekday: u8,
-    pub hour: u8,
-    pub minute: u8,
-    pub second: u8,
-}
-
-// A void field reads 0.
-fn unless(void: bool, octet: u8) -> u8
-    ensures { result ≡ unless void octet }
-{
-    if void { 0 } else { octet }
-}
-
-// The number of a field from 0 to 255.
-fn octet_of(field: i64) -> Option<u8>
-    ensures { result ≡ octet_of field }
-{
-    u8::try_from(field).ok()
-}
-
-// The year, where it is told.
-fn told(void: bool, years: u8) -> Option<u16>
-    ensures { result ≡ told void years }
-{
-    if void {
-        None
-    } else {
-        Some(1900 + u16::from(years))
-    }
+    pub weekday: Option<u8>,
+    // The hour, the minute and the second.
+    pub clock: Option<(u8, u8, u8)>,
 }
 
 // The years after 1900 of the year's field.
-fn years_of(void: bool, year: i64) -> Option<u8>
+fn years_of(void: bool, year: i64) -> Option<Option<u8>>
     ensures { result ≡ years_of void year }
 {
     match (void, year) {
-        (true, 0) => Some(0),
-        (false, 1900..=2155) => Some((year - 1900) as u8),
+        (true, 0) => Some(None),
+        (false, 1900..=2155) => Some(Some((year - 1900) as u8)),
+        _ => None,
+    }
+}
+
+// The year, where it is told.
+pub fn year_told(years: Option<u8>) -> Option<u16>
+    ensures { result ≡ year_told years }
+{
+    years.map(|years| 1900 + u16::from(years))
+}
+
+// The month and the day, where there is such a date.
+fn month_day(years: Option<u8>, month: u8, day: u8) -> Option<(u8, u8)>
+    ensures { result ≡ month_day years month day }
+{
+    let date = Date::new(day, month, year_told(years))?;
+    Some((date.month(), date.day()))
+}
+
+// A time from 00:00:00 to 24:00:00.
+fn clock_time(hour: u8, minute: u8, second: u8) -> Option<(u8, u8, u8)>
+    ensures { result ≡ clock_time hour minute second }
+{
+    match (hour, minute, second) {
+        (0..=23, 0..=59, 0..=59) | (24, 0, 0) => Some((hour, minute, second)),
+        _ => None,
+    }
+}
+
+// The weekday of its field.
+fn weekday_of(void: bool, weekday: i64) -> Option<Option<u8>>
+    ensures { result ≡ weekday_of void weekday }
+{
+    match (void, weekday) {
+        (true, 0) => Some(None),
+        (false, 0..=7) => Some(Some(weekday as u8)),
+        _ => None,
+    }
+}
+
+// The time of its fields.
+fn clock_of(void: bool, fields: &[i64]) -> Option<Option<(u8, u8, u8)>>
+    ensures { result ≡ clock_of void fields.now }
+{
+    let [hour, minute, second] = fields else {
+        return None;
+    };
+    let hour = u8::try_from(*hour).ok()?;
+    let minute = u8::try_from(*minute).ok()?;
+    let second = u8::try_from(*second).ok()?;
+    match (void, hour, minute, second) {
+        (false, _, _, _) => Some(Some(clock_time(hour, minute, second)?)),
+        (true, 0, 0, 0) => Some(None),
         _ => None,
     }
 }
 
 impl DatePart {
-    // The same date with 0 in its void fields.
-    fn cleared(self, voids: Voids) -> DatePart
-        ensures { result ≡ date_cleared voids self }
-    {
-        DatePart {
-            years: unless(voids.year, self.years),
-            month: unless(voids.date, self.month),
-            day: unless(voids.date, self.day),
-        }
-    }
-
-    // The same date, if there is such a date or it is void and 0.
-    fn checked(self, voids: Voids) -> Option<DatePart>
-        ensures { result ≡ when (date_stands voids self) self }
-    {
-        let DatePart { years, month, day } = self;
-        if voids.date {
-            return match (month, day) {
-                (0, 0) => Some(self),
-                _ => None,
-            };
-        }
-        let date = Date::new(day, month, told(voids.year, years))?;
-        Some(DatePart {
-            years,
-            month: date.month(),
-            day: date.day(),
-        })
-    }
-
     // The date in octets of a payload.
-    pub fn in_octets(self, voids: Voids) -> Option<DatePart>
-        ensures { result ≡ date_in voids self }
+    pub fn in_octets(voids: Voids, years: u8, month: u8, day: u8) -> Option<DatePart>
+        ensures { result ≡ date_in voids years month day }
     {
-        if self.month >> 4 != 0 || self.day >> 5 != 0 {
-            return None;
-        }
-        self.cleared(voids).checked(voids)
-    }
-
-    // The numbers of the first three fields of a reading.
-    fn numbers(voids: Voids, fields: &[i64]) -> Option<DatePart>
-        ensures { result ≡ date_numbers voids fields.now }
-    {
-        let [year, month, day] = fields else {
-            return None;
+        let years = (!voids.year).then_some(years);
+        let day = match (voids.date, month, day) {
+            (false, _, _) => Some(month_day(years, month, day)?),
+            (true, 0..=15, 0..=31) => None,
+            _ => return None,
         };
-        Some(DatePart {
-            years: years_of(voids.year, *year)?,
-            month: octet_of(*month)?,
-            day: octet_of(*day)?,
-        })
+        Some(DatePart { years, day })
     }
 
     // The date of the first three fields of a reading.
     pub fn of_fields(voids: Voids, fields: &[i64]) -> Option<DatePart>
         ensures { result ≡ date_of voids fields.now }
     {
-        DatePart::numbers(voids, fields)?.checked(voids)
-    }
-
-    // The first three octets of a payload.
-    pub fn octets(self) -> [u8; 3]
-        ensures { result ≡ date_octets self }
-    {
-        [self.years, self.month, self.day]
-    }
-
-    // The first three fields of a reading.
-    pub fn fields(self, voids: Voids) -> [i64; 3]
-        ensures { result ≡ date_fields voids self }
-    {
-        let year = told(voids.year, self.years).unwrap_or(0);
-        [i64::from(year), i64::from(self.month), i64::from(self.day)]
-    }
-}
-
-// Whether it is a time from 00:00:00 to 24:00:00.
-fn to_midnight(hour: u8, minute: u8, second: u8) -> bool
-    ensures { result ≡ to_midnight hour minute second }
-{
-    match (hour, minute, second) {
-        (0..=23, 0..=59, 0..=59) | (24, 0, 0) => true,
-        _ => false,
+        let [year, month, day] = fields else {
+            return None;
+        };
+        let years = years_of(voids.year, *year)?;
+        let month = u8::try_from(*month).ok()?;
+        let day = u8::try_from(*day).ok()?;
+        let day = match (voids.date, month, day) {
+            (false, _, _) => Some(month_day(years, month, day)?),
+            (true, 0, 0) => None,
+            _ => return None,
+        };
+        Some(DatePart { years, day })
     }
 }
 
 impl TimePart {
-    // The same time with 0 in its void fields.
-    fn cleared(self, voids: Voids) -> TimePart
-        ensures { result ≡ time_cleared voids self }
-    {
-        TimePart {
-            weekday: unless(voids.weekday, self.weekday),
-            hour: unless(voids.time, self.hour),
-            minute: unless(voids.time, self.minute),
-            second: unless(voids.time, self.second),
-        }
-    }
-
-    // The same time, if its weekday and its time are legal or void and 0.
-    fn checked(self, voids: Voids) -> Option<TimePart>
-        ensures { result ≡ when (time_stands voids self) self }
-    {
-        let TimePart {
-            weekday,
-            hour,
-            minute,
-            second,
-        } = self;
-        let weekday_stands = if voids.weekday {
-            weekday == 0
-        } else {
-            weekday <= 7
-        };
-        let time_stands = if voids.time {
-            (hour, minute, second) == (0, 0, 0)
-        } else {
-            to_midnight(hour, minute, second)
-        };
-        if weekday_stands && time_stands {
-            Some(self)
-        } else {
-            None
-        }
-    }
-
     // The weekday and the time in octets of a payload.
-    pub fn in_octets(self, voids: Voids) -> Option<TimePart>
-        ensures { result ≡ time_in voids self }
+    pub fn in_octets(voids: Voids, first: u8, minute: u8, second: u8) -> Option<TimePart>
+        ensures { result ≡ time_in voids first minute second }
     {
-        if self.minute >> 6 != 0 || self.second >> 6 != 0 {
-            return None;
-        }
-        self.cleared(voids).checked(voids)
-    }
-
-    // The numbers of the next four fields of a reading.
-    fn numbers(fields: &[i64]) -> Option<TimePart>
-        ensures { result ≡ time_numbers fields.now }
-    {
-        let [weekday, hour, minute, second] = fields else {
-            return None;
+        let weekday = (!voids.weekday).then_some(first / 32);
+        let clock = match (voids.time, minute, second) {
+            (false, _, _) => Some(clock_time(first % 32, minute, second)?),
+            (true, 0..=63, 0..=63) => None,
+            _ => return None,
         };
-        Some(TimePart {
-            weekday: octet_of(*weekday)?,
-            hour: octet_of(*hour)?,
-            minute: octet_of(*minute)?,
-            second: octet_of(*second)?,
-        })
+        Some(TimePart { weekday, clock })
     }
 
     // The weekday and the time of the next four fields of a reading.
     pub fn of_fields(voids: Voids, fields: &[i64]) -> Option<TimePart>
         ensures { result ≡ time_of voids fields.now }
     {
-        TimePart::numbers(fields)?.checked(voids)
-    }
-
-    // The next three octets of a payload.
-    pub fn octets(self) -> [u8; 3]
-        ensures { result ≡ time_octets self }
-    {
-        [
-            32 * (self.weekday % 8) + self.hour % 32,
-            self.minute,
-            self.second,
-        ]
-    }
-
-    // The next four fields of a reading.
-    pub fn fields(self) -> [i64; 4]
-        ensures { result ≡ time_fields self }
-    {
-        [
-            i64::from(self.weekday),
-            i64::from(self.hour),
-            i64::from(self.minute),
-            i64::from(self.second),
-        ]
+        let [weekday, ..] = fields else {
+            return None;
+        };
+        Some(TimePart {
+            weekday: weekday_of(voids.weekday, *weekday)?,
+            clock: clock_of(voids.time, &fields[1..])?,
+        })
     }
 }

@@ -13,6 +13,7 @@ returns-in_err-time c =
 
 pub returns : goal.returns
 returns c =
-    sym
+    ap Some c.new.ensures
+    ∙ sym
     (decided c.args.reading.now _ _ (Some _) (ap flags_of (sym (take_rest c.args.reading.now 7)) ∙ sym c.in_ok-flags.ensures)
     (sym c.in_ok-date.ensures) (sym c.in_ok-time.ensures))
