@@ -39,7 +39,7 @@ moment_read =
     by_next _ _ λ years. by_next _ _ λ month. by_next _ _ λ day. by_next _ _ λ first. by_next _ _ λ minute. by_next _ _ λ second. by_next _ _ λ octet. by_next _ _ λ quality.
     by_end _ _ (
     by_bind (flags_in octet quality) _ _ λ flags ef. by_bind (date_in flags.voids years month day) _ _ λ date ed. by_bind (time_in flags.voids first minute second) _ _ λ time et. by_some _ _ λ os.
-    (record { date_is = date_read flags.voids years month day os.0 date ed; time_is = time_read flags.voids first minute second os.1.1.1.0 time et }, refl))
+    (record { date_is = date_read flags.voids years month day os.0 date ed; time_is = time_read flags.voids first minute second time et }, refl))
 
 moment_back : (m : Moment) → ProperMoment m → moment_of (moment_fields m) ≡ Some m
 moment_back m p =

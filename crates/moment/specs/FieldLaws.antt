@@ -1,5 +1,5 @@
 -- The laws of one field of a date and time: what it was, and that it comes back. Assumes nothing.
-use Rattle.std.specs.Prelude.{◌≡◌, ℕ, ◌+◌, ◌<◌, ◌≤◌, Bool, true, false, List, [], ◌∷◌, map, ℤ, pos, negsuc, Some, None, Option, IfSome, unwrap_or, is_none, ◌==◌, refl}
+use Rattle.std.specs.Prelude.{◌≡◌, ℕ, ◌<◌, Bool, true, false, List, [], ◌∷◌, map, ℤ, pos, negsuc, Some, None, Option, IfSome, unwrap_or, is_none, ◌==◌, refl}
 use Rattle.std.proofs.Common.{ap, arith}
 use Rattle.std.proofs.lemmas.Int.{ints}
 use Rattle.std.proofs.lemmas.Bool.{lt-ltb}
@@ -10,7 +10,7 @@ use Rattle.datapoint.specs.Shapes.{when}
 use Rattle.clock.specs.Fields.{octet_of}
 use Rattle.moment.specs.Bits.{digit}
 use Rattle.moment.specs.Flags.{flag_of}
-use Rattle.moment.specs.Voidable.{voidable, unless, year_told, years_of, weekday_of}
+use Rattle.moment.specs.Voidable.{voidable, unless, year_told, years_of, week_day, weekday_of}
 use Rattle.clock.specs.Taken.{by_when, by_mapped}
 
 -- numbers below 65536 are in range
@@ -75,6 +75,13 @@ years_was void (negsuc m) = λ y e. cc
 pub years_back : (y : Option ℕ) → Below 256 y → years_of (is_none y) (pos (year_field y)) ≡ Some y
 years_back None h = refl
 years_back (Some n) h = grind (arith, nat_tests)
+
+pub weekday_stands : (void blank : Bool) (weekday : ℕ) (w : Option ℕ) → voidable void blank (week_day weekday) ≡ Some w → Below 8 w
+weekday_stands void blank weekday = by_voidable void blank _ (λ v w. Below 8 w) (λ z. tt) (by_when _ _ _ (λ t. grind (arith, nat_tests)))
+
+pub weekday_again : (w : Option ℕ) → Below 8 w → voidable (is_none w) true (week_day (unwrap_or w 0)) ≡ Some w
+weekday_again None h = refl
+weekday_again (Some n) h = grind (arith, nat_tests)
 
 pub weekday_was : (void : Bool) (x : ℤ) (w : Option ℕ) → weekday_of void x ≡ Some w → (x ≡ pos (unwrap_or w 0)) × (void ≡ is_none w) × Below 8 w
 weekday_was void (pos m) =

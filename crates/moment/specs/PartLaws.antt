@@ -9,10 +9,9 @@ use Rattle.moment.specs.declared.parts.DatePart.{DatePart}
 use Rattle.moment.specs.declared.parts.TimePart.{TimePart}
 use Rattle.moment.specs.Bits.{zero_from}
 use Rattle.clock.specs.Calendar.{on_calendar}
-use Rattle.clock.specs.Fields.{octet_of}
 use Rattle.moment.specs.Voidable.{voidable, unless, year_told, month_day, date_in, date_of, date_octets, date_fields, to_midnight, clock_time, clock_of, time_in, time_of, time_octets, time_fields}
 use Rattle.clock.specs.Taken.{by_next, by_end, by_when, by_bind, by_some}
-use Rattle.moment.specs.FieldLaws.{in_range, octet_was, octet_back, by_voidable, Below, below_or, unless_below, unless_back, year_field, year_few, years_was, years_back, weekday_was, weekday_back}
+use Rattle.moment.specs.FieldLaws.{in_range, octet_was, octet_back, by_voidable, Below, below_or, unless_below, unless_back, year_field, year_few, years_was, years_back, weekday_stands, weekday_again, weekday_was, weekday_back}
 
 -- the month and the day
 
@@ -173,11 +172,11 @@ pub record TimeWritten (voids : Voids) (ys : List ℤ) (time : TimePart) : Type 
   pub time_void : voids.time ≡ is_none time.clock
   pub fields_are : time_fields time ≡ ys
 
-pub time_read : (voids : Voids) (first minute second : ℕ) → first < 256 → (time : TimePart) → time_in voids first minute second ≡ Some time → ProperTime time
-time_read voids first minute second f =
-    by_bind _ _ _ λ c e. by_some _ _ (record {
-      weekday_fits = unless_below 8 voids.weekday (first / 32) (omega arith);
-      clock_is = clock_stands voids.time (zero_from 6 minute && zero_from 6 second) (first % 32) minute second c e;
+pub time_read : (voids : Voids) (first minute second : ℕ) (time : TimePart) → time_in voids first minute second ≡ Some time → ProperTime time
+time_read voids first minute second =
+    by_bind _ _ _ λ w ew. by_bind _ _ _ λ c ec. by_some _ _ (record {
+      weekday_fits = weekday_stands voids.weekday true (first / 32) w ew;
+      clock_is = clock_stands voids.time (zero_from 6 minute && zero_from 6 second) (first % 32) minute second c ec;
     })
 
 pub time_written : (voids : Voids) (ys : List ℤ) (time : TimePart) → time_of voids ys ≡ Some time → TimeWritten voids ys time
@@ -200,7 +199,7 @@ module _ (time : TimePart) (p : ProperTime time) (year date : Bool) where
       let packed = 32 * (unwrap_or time.weekday 0 % 8) + hour_of time.clock % 32 in
       let weekday : packed / 32 ≡ unwrap_or time.weekday 0 = omega arith in
       let hour : packed % 32 ≡ hour_of time.clock = omega arith in
-      rw (weekday, hour, unless_back time.weekday, clock_again time.clock p.clock_is)
+      rw (weekday, hour, weekday_again time.weekday p.weekday_fits, clock_again time.clock p.clock_is)
 
   pub time_back : time_of time_voids (time_fields time) ≡ Some time
   time_back =

@@ -1,5 +1,5 @@
 -- A date and a time, parts of which may be void. Assumes nothing.
-use Rattle.std.specs.Prelude.{ℕ, ◌+◌, ◌-◌, ◌*◌, ◌/◌, ◌%◌, Bool, true, false, cond, ◌&&◌, ◌||◌, List, [], ◌∷◌, ℤ, pos, Some, None, Option, unwrap_or, ◌==◌, nat_le, nat_lt}
+use Rattle.std.specs.Prelude.{ℕ, ◌+◌, ◌-◌, ◌*◌, ◌/◌, ◌%◌, Bool, true, false, ◌&&◌, ◌||◌, List, [], ◌∷◌, ℤ, pos, Some, None, Option, unwrap_or, ◌==◌, nat_le, nat_lt}
 use Rattle.std.specs.Option.{option_map}
 use Rattle.datapoint.specs.Shapes.{when, natural}
 use Rattle.moment.specs.declared.flags.Voids.{Voids}
@@ -60,15 +60,20 @@ to_midnight hour minute second = on_clock hour minute second || (hour == 24 && (
 abbrev pub clock_time : ℕ → ℕ → ℕ → Option (ℕ × ℕ × ℕ)
 clock_time hour minute second = when (to_midnight hour minute second) (hour, minute, second)
 
+-- a weekday from 0 to 7
+abbrev pub week_day : ℕ → Option ℕ
+week_day weekday = when (nat_lt weekday 8) weekday
+
 -- the weekday in bits 7 to 5 and the hour in bits 4 to 0 of the first octet; the minute and the second in bits 5 to 0, and the other bits are zero
 abbrev pub time_in : Voids → ℕ → ℕ → ℕ → Option TimePart
 time_in voids first minute second = do
-  time ← voidable voids.time (zero_from 6 minute && zero_from 6 second) (clock_time (first % 32) minute second)
-  Some (record { weekday = unless voids.weekday (first / 32); clock = time })
+  weekday ← voidable voids.weekday true (week_day (first / 32))
+  clock ← voidable voids.time (zero_from 6 minute && zero_from 6 second) (clock_time (first % 32) minute second)
+  Some (record { weekday = weekday; clock = clock })
 
--- a weekday from 0 to 7; a void one is 0
+-- the weekday's field; a void weekday is 0
 abbrev pub weekday_of : Bool → ℤ → Option (Option ℕ)
-weekday_of void = natural (λ weekday. voidable void (weekday == 0) (when (nat_lt weekday 8) weekday))
+weekday_of void = natural (λ weekday. voidable void (weekday == 0) (week_day weekday))
 
 -- the hour, the minute and the second; a void time is 0
 abbrev pub clock_of : Bool → List ℤ → Option (Option (ℕ × ℕ × ℕ))

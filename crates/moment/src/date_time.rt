@@ -7,7 +7,7 @@ use datapoint::datapoint_type::{Counts, DatapointType};
 use datapoint::front::deliver;
 use datapoint::refusal::Refusal;
 
-#[derive(Clone, Copy)]
+#[derive(Clone, Copy, PartialEq, Eq, Debug)]
 pub struct DateAndTime;
 
 impl DatapointType for DateAndTime {
@@ -26,19 +26,15 @@ impl DatapointType for DateAndTime {
         if payload.len() != 8 {
             return Err(Refusal::WrongLength { due: 8 });
         }
-        match Moment::reading(payload) {
-            Some(reading) => deliver(&reading, out),
-            None => Err(Refusal::IllegalPayload),
-        }
+        let moment = Moment::in_octets(payload).ok_or(Refusal::IllegalPayload)?;
+        deliver(&moment.fields(), out)
     }
 
     fn write(&self, reading: &[i64], out: &mut [u8]) -> Result<usize, Refusal> {
         if reading.len() != 16 {
             return Err(Refusal::WrongLength { due: 16 });
         }
-        match Moment::payload(reading) {
-            Some(payload) => deliver(&payload, out),
-            None => Err(Refusal::IllegalReading),
-        }
+        let moment = Moment::of_fields(reading).ok_or(Refusal::IllegalReading)?;
+        deliver(&moment.octets(), out)
     }
 }

@@ -1,6 +1,5 @@
 // What a date and time tells.
 ghost use Rattle.std.specs.Prelude.{◌≡◌};
-ghost use Rattle.std.specs.Option.{option_map};
 ghost use Rattle.moment.specs.DateTime.{moment_told, moment_in, moment_of, moment_fields, moment_octets};
 
 use crate::flags::Flags;
@@ -115,19 +114,5 @@ impl Moment {
                 + u8::from(self.summer),
             128 * u8::from(self.synchronized),
         ]
-    }
-
-    // The reading of a payload.
-    pub fn reading(payload: &[u8]) -> Option<[i64; 16]>
-        ensures { result ≡ option_map moment_fields (moment_in payload.now) }
-    {
-        Some(Moment::in_octets(payload)?.fields())
-    }
-
-    // The proper payload of a reading.
-    pub fn payload(reading: &[i64]) -> Option<[u8; 8]>
-        ensures { result ≡ option_map moment_octets (moment_of reading.now) }
-    {
-        Some(Moment::of_fields(reading)?.octets())
     }
 }
