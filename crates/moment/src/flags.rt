@@ -1,7 +1,7 @@
 // The flags of a date and time.
 ghost use Rattle.std.specs.Prelude.{◌≡◌, ◌<◌};
 ghost use Rattle.moment.specs.Bits.{bit};
-ghost use Rattle.moment.specs.Flags.{flag_of, voids_in, voids_of, workday_of, flags_in, flags_of, flags_octets, flags_fields};
+ghost use Rattle.moment.specs.Flags.{flag_of, voids_in, voids_of, workday_of, flags_in, flags_of};
 
 // Which fields are void: NY the year, ND the month and day, NDoW the weekday, NT the time.
 #[derive(Clone, Copy, PartialEq, Eq, Debug)]
@@ -12,6 +12,7 @@ pub struct Voids {
     pub time: bool,
 }
 
+// What the flags tell.
 #[derive(Clone, Copy, PartialEq, Eq, Debug)]
 pub struct Flags {
     // F
@@ -116,40 +117,5 @@ impl Flags {
             summer: flag(*suti)?,
             synchronized: flag(*clq)?,
         })
-    }
-
-    pub fn octets(&self) -> [u8; 2]
-        ensures { result ≡ flags_octets self.now }
-    {
-        let voids = self.voids;
-        [
-            128 * u8::from(self.fault)
-                + 64 * u8::from(self.workday.unwrap_or(false))
-                + 32 * u8::from(self.workday.is_none())
-                + 16 * u8::from(voids.year)
-                + 8 * u8::from(voids.date)
-                + 4 * u8::from(voids.weekday)
-                + 2 * u8::from(voids.time)
-                + u8::from(self.summer),
-            128 * u8::from(self.synchronized),
-        ]
-    }
-
-    // The last nine fields of a reading.
-    pub fn fields(&self) -> [i64; 9]
-        ensures { result ≡ flags_fields self.now }
-    {
-        let voids = self.voids;
-        [
-            i64::from(self.fault),
-            i64::from(self.workday.unwrap_or(false)),
-            i64::from(self.workday.is_none()),
-            i64::from(voids.year),
-            i64::from(voids.date),
-            i64::from(voids.weekday),
-            i64::from(voids.time),
-            i64::from(self.summer),
-            i64::from(self.synchronized),
-        ]
     }
 }

@@ -8,16 +8,16 @@ use crate::parts::{DatePart, TimePart, year_told};
 // A date, a time, and what the flags tell besides what is void.
 #[derive(Clone, Copy, PartialEq, Eq, Debug)]
 pub struct Moment {
-    pub date: DatePart,
-    pub time: TimePart,
+    date: DatePart,
+    time: TimePart,
     // F
-    pub fault: bool,
+    fault: bool,
     // WD, unless NWD voids it.
-    pub workday: Option<bool>,
+    workday: Option<bool>,
     // SUTI
-    pub summer: bool,
+    summer: bool,
     // CLQ
-    pub synchronized: bool,
+    synchronized: bool,
 }
 
 impl Moment {
