@@ -4,31 +4,15 @@ use Rattle.std.specs.Option.{option_map}
 use Rattle.datapoint.specs.Meaning.{Meaning}
 use Rattle.moment.specs.declared.flags.Flags.{Flags}
 use Rattle.moment.specs.declared.moment.Moment.{Moment}
-use Rattle.moment.specs.declared.parts.DatePart.{DatePart}
-use Rattle.moment.specs.declared.parts.TimePart.{TimePart}
 use Rattle.clock.specs.Fields.{next, end, ◌>>=◌}
 use Rattle.moment.specs.Flags.{flags_in, flags_of, flags_octets, flags_fields}
 use Rattle.moment.specs.Voidable.{date_in, date_of, date_octets, date_fields, time_in, time_of, time_octets, time_fields}
 
--- what the flags tell besides what is void, with a date and a time
-abbrev pub moment_told : Flags → DatePart → TimePart → Moment
-moment_told flags date time = record {
-  date = date;
-  time = time;
-  fault = flags.fault;
-  workday = flags.workday;
-  summer = flags.summer;
-  synchronized = flags.synchronized;
-}
-
 -- the flags of a moment, in which what is not told is void
 abbrev pub flags_told : Moment → Flags
 flags_told m = record {
-  fault = m.fault;
-  workday = m.workday;
   voids = record { year = is_none m.date.years; date = is_none m.date.day; weekday = is_none m.time.weekday; time = is_none m.time.clock };
-  summer = m.summer;
-  synchronized = m.synchronized;
+  status = m.status;
 }
 
 -- the years after 1900, the month, the day, the weekday with the hour, the minute, the second, and two octets of flags
@@ -37,7 +21,7 @@ moment_in = next λ years. next λ month. next λ day. next λ first. next λ mi
   flags ← flags_in octet quality
   date ← date_in flags.voids years month day
   time ← time_in flags.voids first minute second
-  Some (moment_told flags date time)
+  Some (record { date = date; time = time; status = flags.status })
 
 -- three fields of the date, four of the time, and nine flags
 abbrev pub moment_of : List ℤ → Option Moment
@@ -45,7 +29,7 @@ moment_of xs = do
   flags ← flags_of (drop 7 xs)
   date ← date_of flags.voids (take 3 xs)
   time ← time_of flags.voids (take 4 (drop 3 xs))
-  Some (moment_told flags date time)
+  Some (record { date = date; time = time; status = flags.status })
 
 abbrev pub moment_octets : Moment → List ℕ
 moment_octets m = date_octets m.date ++ (time_octets m.time ++ flags_octets (flags_told m))

@@ -13,7 +13,7 @@ use Rattle.moment.specs.declared.parts.TimePart.{TimePart}
 use Rattle.clock.specs.Fields.{◌>>=◌}
 use Rattle.moment.specs.Flags.{flags_in, flags_of, flags_octets, flags_fields}
 use Rattle.moment.specs.Voidable.{date_in, date_of, date_octets, date_fields, time_in, time_of, time_octets, time_fields}
-use Rattle.moment.specs.DateTime.{moment_told, flags_told, moment_in, moment_of, moment_octets, moment_fields, date_time}
+use Rattle.moment.specs.DateTime.{flags_told, moment_in, moment_of, moment_octets, moment_fields, date_time}
 use Rattle.clock.specs.Taken.{by_next, by_end, by_bind, by_some, by_mapped}
 use Rattle.clock.specs.Both.{Reads, Writes, lawful_both}
 use Rattle.moment.specs.PartLaws.{ProperDate, date_read, date_again, date_written, date_back, date_octets_made, date_ranged, ProperTime, time_read, time_again, time_written, time_back, time_octets_made, time_ranged}
@@ -27,9 +27,9 @@ pub record ProperMoment (m : Moment) : Type 0 where
 pub decided :
     (xs : List ℤ) (flags : Flags) (date : DatePart) (time : Option TimePart) → flags_of (drop 7 xs) ≡ Some flags →
     date_of flags.voids (take 3 xs) ≡ Some date → time_of flags.voids (take 4 (drop 3 xs)) ≡ time →
-    moment_of xs ≡ (time >>= λ t. Some (moment_told flags date t))
+    moment_of xs ≡ (time >>= λ t. Some (record { date = date; time = t; status = flags.status }))
 decided xs flags date time f d t =
-    let told : Flags → DatePart → TimePart → Option Moment = λ f d t. Some (moment_told f d t) in
+    let told : Flags → DatePart → TimePart → Option Moment = λ f d t. Some (record { date = d; time = t; status = f.status }) in
     ap (λ (o : Option Flags). o >>= λ f. date_of f.voids (take 3 xs) >>= λ d. time_of f.voids (take 4 (drop 3 xs)) >>= told f d) f
     ∙ (ap (λ (o : Option DatePart). o >>= λ d. time_of flags.voids (take 4 (drop 3 xs)) >>= told flags d) d
     ∙ ap (λ (o : Option TimePart). o >>= told flags date) t)
@@ -56,12 +56,9 @@ moment_written xs =
     by_bind (flags_of (drop 7 xs)) _ _ λ flags ef. by_bind (date_of flags.voids (take 3 xs)) _ _ λ date ed. by_bind (time_of flags.voids (take 4 (drop 3 xs))) _ _ λ time et. by_some _ _ (
     let dw = date_written flags.voids (take 3 xs) date ed in
     let tw = time_written flags.voids (take 4 (drop 3 xs)) time et in
-    let told : flags_told (moment_told flags date time) ≡ flags = λ i. record {
-      fault = flags.fault;
-      workday = flags.workday;
+    let told : flags_told (record { date = date; time = time; status = flags.status }) ≡ flags = λ i. record {
       voids = record { year = sym dw.year_void i; date = sym dw.date_void i; weekday = sym tw.weekday_void i; time = sym tw.time_void i };
-      summer = flags.summer;
-      synchronized = flags.synchronized;
+      status = flags.status;
     } in
     let fw = ap flags_fields told ∙ flags_were (drop 7 xs) flags ef in
     (record { date_is = dw.proper; time_is = tw.proper }, ap₂ ◌++◌ dw.fields_are (ap₂ ◌++◌ tw.fields_are fw) ∙ rejoined xs))

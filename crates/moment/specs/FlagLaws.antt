@@ -54,7 +54,7 @@ voids_back v = rw (flag_back v.year, flag_back v.date, flag_back v.weekday, flag
 
 pub flags_back : (flags : Flags) → flags_of (flags_fields flags) ≡ Some flags
 flags_back flags =
-    rw (flag_back flags.fault, workday_back flags.workday, voids_back flags.voids, flag_back flags.summer, flag_back flags.synchronized)
+    rw (flag_back flags.status.fault, workday_back flags.status.workday, voids_back flags.voids, flag_back flags.status.summer, flag_back flags.status.synchronized)
 
 -- flags in octets
 
@@ -70,64 +70,66 @@ workday_is : (w : Option Bool) → workday_told (unwrap_or w false) (is_none w) 
 workday_is None = refl
 workday_is (Some wd) = refl
 
-pub flags_again : (flags : Flags) → flags_in (flags_octet flags) (128 * digit flags.synchronized) ≡ Some flags
+pub flags_again : (flags : Flags) → flags_in (flags_octet flags) (128 * digit flags.status.synchronized) ≡ Some flags
 flags_again flags =
     let octet = flags_octet flags in
-    let quality = 128 * digit flags.synchronized in
-    let f = digit_le flags.fault in
-    let wd = digit_le (unwrap_or flags.workday false) in
-    let nwd = digit_le (is_none flags.workday) in
+    let quality = 128 * digit flags.status.synchronized in
+    let f = digit_le flags.status.fault in
+    let wd = digit_le (unwrap_or flags.status.workday false) in
+    let nwd = digit_le (is_none flags.status.workday) in
     let ny = digit_le flags.voids.year in
     let nd = digit_le flags.voids.date in
     let ndow = digit_le flags.voids.weekday in
     let nt = digit_le flags.voids.time in
-    let suti = digit_le flags.summer in
-    let clq = digit_le flags.synchronized in
+    let suti = digit_le flags.status.summer in
+    let clq = digit_le flags.status.synchronized in
     let zero = eq-eqb (quality % 128) 0 (omega arith) in
     rw zero
     (ap Some
     (λ i. record {
-      fault = bit_is flags.fault 7 octet (omega arith) i;
-      workday = (ap₂ workday_told (bit_is (unwrap_or flags.workday false) 6 octet (omega arith)) (bit_is (is_none flags.workday) 5 octet (omega arith)) ∙ workday_is flags.workday) i;
       voids = record {
         year = bit_is flags.voids.year 4 octet (omega arith) i;
         date = bit_is flags.voids.date 3 octet (omega arith) i;
         weekday = bit_is flags.voids.weekday 2 octet (omega arith) i;
         time = bit_is flags.voids.time 1 octet (omega arith) i;
       };
-      summer = bit_is flags.summer 0 octet (omega arith) i;
-      synchronized = bit_is flags.synchronized 7 quality (omega arith) i;
+      status = record {
+        fault = bit_is flags.status.fault 7 octet (omega arith) i;
+        workday = (ap₂ workday_told (bit_is (unwrap_or flags.status.workday false) 6 octet (omega arith)) (bit_is (is_none flags.status.workday) 5 octet (omega arith)) ∙ workday_is flags.status.workday) i;
+        summer = bit_is flags.status.summer 0 octet (omega arith) i;
+        synchronized = bit_is flags.status.synchronized 7 quality (omega arith) i;
+      };
     }))
 
 pub flags_octets_made : (flags : Flags) → Octets (flags_octets flags)
 flags_octets_made flags =
     omega (
       arith,
-      digit_le flags.fault,
-      digit_le (unwrap_or flags.workday false),
-      digit_le (is_none flags.workday),
+      digit_le flags.status.fault,
+      digit_le (unwrap_or flags.status.workday false),
+      digit_le (is_none flags.status.workday),
       digit_le flags.voids.year,
       digit_le flags.voids.date,
       digit_le flags.voids.weekday,
       digit_le flags.voids.time,
-      digit_le flags.summer,
-      digit_le flags.synchronized,
+      digit_le flags.status.summer,
+      digit_le flags.status.synchronized,
     )
 
 pub flags_ranged : (flags : Flags) → AllByRecursion InRange (flags_fields flags)
 flags_ranged flags =
     in_range
-    (digit flags.fault ∷ (digit (unwrap_or flags.workday false) ∷ (digit (is_none flags.workday) ∷ (digit flags.voids.year ∷ (digit flags.voids.date ∷
-    (digit flags.voids.weekday ∷ (digit flags.voids.time ∷ (digit flags.summer ∷ (digit flags.synchronized ∷ [])))))))))
+    (digit flags.status.fault ∷ (digit (unwrap_or flags.status.workday false) ∷ (digit (is_none flags.status.workday) ∷ (digit flags.voids.year ∷ (digit flags.voids.date ∷
+    (digit flags.voids.weekday ∷ (digit flags.voids.time ∷ (digit flags.status.summer ∷ (digit flags.status.synchronized ∷ [])))))))))
     (omega (
       arith,
-      digit_le flags.fault,
-      digit_le (unwrap_or flags.workday false),
-      digit_le (is_none flags.workday),
+      digit_le flags.status.fault,
+      digit_le (unwrap_or flags.status.workday false),
+      digit_le (is_none flags.status.workday),
       digit_le flags.voids.year,
       digit_le flags.voids.date,
       digit_le flags.voids.weekday,
       digit_le flags.voids.time,
-      digit_le flags.summer,
-      digit_le flags.synchronized,
+      digit_le flags.status.summer,
+      digit_le flags.status.synchronized,
     ))

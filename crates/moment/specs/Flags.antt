@@ -37,21 +37,18 @@ abbrev pub flags_in : ℕ → ℕ → Option Flags
 flags_in octet quality =
     when (quality % 128 == 0)
     (record {
-      fault = bit 7 octet;
-      workday = workday_told (bit 6 octet) (bit 5 octet);
       voids = voids_in octet;
-      summer = bit 0 octet;
-      synchronized = bit 7 quality;
+      status = record { fault = bit 7 octet; workday = workday_told (bit 6 octet) (bit 5 octet); summer = bit 0 octet; synchronized = bit 7 quality };
     })
 
 abbrev pub flags_octet : Flags → ℕ
 flags_octet flags =
-    128 * digit flags.fault + 64 * digit (unwrap_or flags.workday false) + 32 * digit (is_none flags.workday)
+    128 * digit flags.status.fault + 64 * digit (unwrap_or flags.status.workday false) + 32 * digit (is_none flags.status.workday)
     + 16 * digit flags.voids.year + 8 * digit flags.voids.date + 4 * digit flags.voids.weekday + 2 * digit flags.voids.time
-    + digit flags.summer
+    + digit flags.status.summer
 
 abbrev pub flags_octets : Flags → List ℕ
-flags_octets flags = flags_octet flags ∷ (128 * digit flags.synchronized ∷ [])
+flags_octets flags = flags_octet flags ∷ (128 * digit flags.status.synchronized ∷ [])
 
 -- the nine flags of a reading, in the same order
 abbrev pub flags_of : List ℤ → Option Flags
@@ -61,10 +58,10 @@ flags_of = next λ f. next λ wd. next λ nwd. next λ ny. next λ nd. next λ n
   voids ← voids_of (ny ∷ (nd ∷ (ndow ∷ (nt ∷ []))))
   summer ← flag_of suti
   synchronized ← flag_of clq
-  Some (record { fault = fault; workday = workday; voids = voids; summer = summer; synchronized = synchronized })
+  Some (record { voids = voids; status = record { fault = fault; workday = workday; summer = summer; synchronized = synchronized } })
 
 abbrev pub flags_fields : Flags → List ℤ
 flags_fields flags =
-    pos (digit flags.fault) ∷ (pos (digit (unwrap_or flags.workday false)) ∷ (pos (digit (is_none flags.workday)) ∷
+    pos (digit flags.status.fault) ∷ (pos (digit (unwrap_or flags.status.workday false)) ∷ (pos (digit (is_none flags.status.workday)) ∷
     (pos (digit flags.voids.year) ∷ (pos (digit flags.voids.date) ∷ (pos (digit flags.voids.weekday) ∷ (pos (digit flags.voids.time) ∷
-    (pos (digit flags.summer) ∷ (pos (digit flags.synchronized) ∷ []))))))))
+    (pos (digit flags.status.summer) ∷ (pos (digit flags.status.synchronized) ∷ []))))))))

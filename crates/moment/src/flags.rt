@@ -12,18 +12,23 @@ pub struct Voids {
     pub time: bool,
 }
 
-// What the flags tell.
+// What the other flags tell.
 #[derive(Clone, Copy, PartialEq, Eq, Debug)]
-pub struct Flags {
+pub struct Status {
     // F
     pub fault: bool,
     // WD, unless NWD voids it.
     pub workday: Option<bool>,
-    pub voids: Voids,
     // SUTI
     pub summer: bool,
     // CLQ
     pub synchronized: bool,
+}
+
+#[derive(Clone, Copy, PartialEq, Eq, Debug)]
+pub struct Flags {
+    pub voids: Voids,
+    pub status: Status,
 }
 
 // One bit of an octet.
@@ -95,11 +100,13 @@ impl Flags {
             return None;
         }
         Some(Flags {
-            fault: bit(octet, 7),
-            workday: (!bit(octet, 5)).then_some(bit(octet, 6)),
             voids: Voids::in_octet(octet),
-            summer: bit(octet, 0),
-            synchronized: bit(quality, 7),
+            status: Status {
+                fault: bit(octet, 7),
+                workday: (!bit(octet, 5)).then_some(bit(octet, 6)),
+                summer: bit(octet, 0),
+                synchronized: bit(quality, 7),
+            },
         })
     }
 
@@ -110,12 +117,15 @@ impl Flags {
         let [f, _, _, _, _, _, _, suti, clq] = fields else {
             return None;
         };
-        Some(Flags {
-            fault: flag(*f)?,
-            workday: workday_of(&fields[1..3])?,
-            voids: Voids::of_fields(&fields[3..7])?,
+        let fault = flag(*f)?;
+        let workday = workday_of(&fields[1..3])?;
+        let voids = Voids::of_fields(&fields[3..7])?;
+        let status = Status {
+            fault,
+            workday,
             summer: flag(*suti)?,
             synchronized: flag(*clq)?,
-        })
+        };
+        Some(Flags { voids, status })
     }
 }

@@ -1,8 +1,8 @@
 // What a date and time tells.
 ghost use Rattle.std.specs.Prelude.{◌≡◌};
-ghost use Rattle.moment.specs.DateTime.{moment_told, moment_in, moment_of, moment_fields, moment_octets};
+ghost use Rattle.moment.specs.DateTime.{moment_in, moment_of, moment_fields, moment_octets};
 
-use crate::flags::Flags;
+use crate::flags::{Flags, Status};
 use crate::parts::{DatePart, TimePart, year_told};
 
 // A date, a time, and what the flags tell besides what is void.
@@ -10,31 +10,10 @@ use crate::parts::{DatePart, TimePart, year_told};
 pub struct Moment {
     date: DatePart,
     time: TimePart,
-    // F
-    fault: bool,
-    // WD, unless NWD voids it.
-    workday: Option<bool>,
-    // SUTI
-    summer: bool,
-    // CLQ
-    synchronized: bool,
+    status: Status,
 }
 
 impl Moment {
-    // The moment of its flags, its date and its time.
-    fn new(flags: Flags, date: DatePart, time: TimePart) -> Moment
-        ensures { result ≡ moment_told flags date time }
-    {
-        Moment {
-            date,
-            time,
-            fault: flags.fault,
-            workday: flags.workday,
-            summer: flags.summer,
-            synchronized: flags.synchronized,
-        }
-    }
-
     // The moment in a payload.
     pub fn in_octets(payload: &[u8]) -> Option<Moment>
         ensures { result ≡ moment_in payload.now }
@@ -45,7 +24,11 @@ impl Moment {
         let flags = Flags::in_octets(*octet, *quality)?;
         let date = DatePart::in_octets(flags.voids, *years, *month, *day)?;
         let time = TimePart::in_octets(flags.voids, *first, *minute, *second)?;
-        Some(Moment::new(flags, date, time))
+        Some(Moment {
+            date,
+            time,
+            status: flags.status,
+        })
     }
 
     // The moment of a reading.
@@ -58,7 +41,11 @@ impl Moment {
         let flags = Flags::of_fields(&reading[7..])?;
         let date = DatePart::of_fields(flags.voids, &reading[0..3])?;
         let time = TimePart::of_fields(flags.voids, &reading[3..7])?;
-        Some(Moment::new(flags, date, time))
+        Some(Moment {
+            date,
+            time,
+            status: flags.status,
+        })
     }
 
     // Its reading, where what is void is 0.
@@ -77,15 +64,15 @@ impl Moment {
             i64::from(hour),
             i64::from(minute),
             i64::from(second),
-            i64::from(self.fault),
-            i64::from(self.workday.unwrap_or(false)),
-            i64::from(self.workday.is_none()),
+            i64::from(self.status.fault),
+            i64::from(self.status.workday.unwrap_or(false)),
+            i64::from(self.status.workday.is_none()),
             i64::from(years.is_none()),
             i64::from(day.is_none()),
             i64::from(weekday.is_none()),
             i64::from(clock.is_none()),
-            i64::from(self.summer),
-            i64::from(self.synchronized),
+            i64::from(self.status.summer),
+            i64::from(self.status.synchronized),
         ]
     }
 
@@ -104,15 +91,15 @@ impl Moment {
             32 * (weekday.unwrap_or(0) % 8) + hour % 32,
             minute,
             second,
-            128 * u8::from(self.fault)
-                + 64 * u8::from(self.workday.unwrap_or(false))
-                + 32 * u8::from(self.workday.is_none())
+            128 * u8::from(self.status.fault)
+                + 64 * u8::from(self.status.workday.unwrap_or(false))
+                + 32 * u8::from(self.status.workday.is_none())
                 + 16 * u8::from(years.is_none())
                 + 8 * u8::from(day.is_none())
                 + 4 * u8::from(weekday.is_none())
                 + 2 * u8::from(clock.is_none())
-                + u8::from(self.summer),
-            128 * u8::from(self.synchronized),
+                + u8::from(self.status.summer),
+            128 * u8::from(self.status.synchronized),
         ]
     }
 }

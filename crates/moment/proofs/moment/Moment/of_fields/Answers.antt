@@ -13,7 +13,6 @@ returns-in_err-time c =
 
 pub returns : goal.returns
 returns c =
-    ap Some c.new.ensures
-    ∙ sym
+    sym
     (decided c.args.reading.now _ _ (Some _) (ap flags_of (sym (take_rest c.args.reading.now 7)) ∙ sym c.in_ok-flags.ensures)
     (sym c.in_ok-date.ensures) (sym c.in_ok-time.ensures))
