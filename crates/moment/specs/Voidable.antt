@@ -28,7 +28,7 @@ year_told = option_map (λ n. 1900 + n)
 abbrev pub month_day : Option ℕ → ℕ → ℕ → Option (ℕ × ℕ)
 month_day years month day = when (on_calendar day month (year_told years)) (month, day)
 
--- the month in bits 3 to 0 and the day in bits 4 to 0; the other bits are zero
+-- the month in bits 3 to 0 and the day in bits 4 to 0; the other bits are zero, as they are in every date of the calendar
 abbrev pub date_in : Voids → ℕ → ℕ → ℕ → Option DatePart
 date_in voids years month day = do
   d ← voidable voids.date (zero_from 4 month && zero_from 5 day) (month_day (unless voids.year years) month day)
@@ -57,6 +57,7 @@ date_fields date = let day = unwrap_or date.day (0, 0) in pos (unwrap_or (year_t
 abbrev pub to_midnight : ℕ → ℕ → ℕ → Bool
 to_midnight hour minute second = on_clock hour minute second || (hour == 24 && (minute == 0 && second == 0))
 
+-- the hour, the minute and the second, where there is such a time
 abbrev pub clock_time : ℕ → ℕ → ℕ → Option (ℕ × ℕ × ℕ)
 clock_time hour minute second = when (to_midnight hour minute second) (hour, minute, second)
 
@@ -64,7 +65,8 @@ clock_time hour minute second = when (to_midnight hour minute second) (hour, min
 abbrev pub week_day : ℕ → Option ℕ
 week_day weekday = when (nat_lt weekday 8) weekday
 
--- the weekday in bits 7 to 5 and the hour in bits 4 to 0 of the first octet; the minute and the second in bits 5 to 0, and the other bits are zero
+-- the weekday in bits 7 to 5 and the hour in bits 4 to 0 of the first octet, then the minute and the second in bits 5 to 0;
+-- the other bits are zero, as they are in every time up to midnight
 abbrev pub time_in : Voids → ℕ → ℕ → ℕ → Option TimePart
 time_in voids first minute second = do
   weekday ← voidable voids.weekday true (week_day (first / 32))
