@@ -39,10 +39,10 @@ pub trait Direction {
         items: &[Self::From],
         out: &mut [Self::To],
     ) -> Result<usize, Refusal>
-        requires due { length items.now ≡ due (counts_of (T.DatapointType.meaning of.now)) }
-        requires room { made (counts_of (T.DatapointType.meaning of.now)) ≤ length out.old }
-        ensures holds { front result out.new ≡ ok_or (makes (T.DatapointType.meaning of.now) items.now) REFUSAL }
-        ensures ends { IfOk result (λ end. end ≡ made (counts_of (T.DatapointType.meaning of.now))) };
+        requires due { length items.now ≡ due (counts_of (T.meaning of.now)) }
+        requires room { made (counts_of (T.meaning of.now)) ≤ length out.old }
+        ensures holds { front result out.new ≡ ok_or (makes (T.meaning of.now) items.now) REFUSAL }
+        ensures ends { IfOk result (λ end. end ≡ made (counts_of (T.meaning of.now))) };
 
     // The items of two halves stand one after the other.
     ghost due_both: { (a b : Meaning) → due (counts_of (appended a b)) ≡ due (counts_of a) + due (counts_of b) };

@@ -20,7 +20,7 @@ const BIT_WITH_STATUS: Joined<UpTo, UpTo> = Joined {
 
 // The payload 01 1F reads 1, 31.
 pub fn bit_with_status(out: &mut [i64]) -> Result<usize, Refusal>
-    ensures { (answer result, out.new) ≡ delivered (pos 1 ∷ (pos 31 ∷ [])) out.old }
+    ensures { (answer result, out.new) ≡ delivered (pos 1 ∷ pos 31 ∷ []) out.old }
 {
     BIT_WITH_STATUS.read(&[0x01, 0x1f], out)
 }

@@ -85,9 +85,9 @@ impl<A: DatapointType, B: DatapointType> Joined<A, B> {
 }
 
 impl<A: DatapointType, B: DatapointType> DatapointType for Joined<A, B> {
-    ghost meaning = { λ s. joined (A.DatapointType.meaning s.first) (B.DatapointType.meaning s.second) };
+    ghost meaning = { λ s. joined (A.meaning s.first) (B.meaning s.second) };
 
-    ghost lawful = { λ s. joined_lawful _ _ (A.DatapointType.lawful s.first) (B.DatapointType.lawful s.second) };
+    ghost lawful = { λ s. joined_lawful _ _ (A.lawful s.first) (B.lawful s.second) };
 
     fn counts(&self) -> Counts {
         self.sums().unwrap_or(Counts {
