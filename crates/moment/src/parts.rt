@@ -1,5 +1,5 @@
 // A date and a time, parts of which may be void.
-ghost use Rattle.std.specs.Prelude.{◌≡◌, Option};
+ghost use Rattle.std.specs.Prelude.{◌≡◌};
 ghost use Rattle.moment.specs.Voidable.{years_of, year_told, month_day, weekday_of, clock_time, clock_of, date_in, date_of, time_in, time_of};
 
 use crate::flags::Voids;
