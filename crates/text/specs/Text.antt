@@ -1,12 +1,12 @@
 -- Text of fourteen characters. Assumes nothing.
-use Rattle.std.specs.Prelude.{ℕ, zero, suc, ◌-◌, Bool, true, ◌&&◌, List, [], ◌∷◌, ◌++◌, map, length, drop, replicate, ℤ, pos, Option, ◌==◌, nat_le}
+use Rattle.std.specs.Prelude.{ℕ, ◌-◌, Bool, ◌&&◌, List, [], ◌∷◌, ◌++◌, map, length, drop, replicate, ℤ, pos, Option, ◌==◌, nat_le}
+use Rattle.std.specs.List.{list_all, before_first}
 use Rattle.datapoint.specs.Meaning.{Meaning}
 use Rattle.datapoint.specs.Shapes.{when, natural}
 
 -- no octet is above the highest
 abbrev pub within : ℕ → List ℕ → Bool
-within highest [] = true
-within highest (b ∷ rest) = nat_le b highest && within highest rest
+within highest octets = list_all (λ b. nat_le b highest) octets
 
 -- fourteen octets, and none above the highest, also after a 00
 abbrev pub legal : ℕ → List ℕ → Bool
@@ -14,9 +14,7 @@ legal highest p = length p == 14 && within highest p
 
 -- the octets before the first 00
 abbrev pub characters : List ℕ → List ℕ
-characters [] = []
-characters (zero ∷ rest) = []
-characters (suc n ∷ rest) = suc n ∷ characters rest
+characters octets = before_first (λ b. b == 0) octets
 
 -- the characters, and then 0 up to the same length
 abbrev pub cleared : List ℕ → List ℕ

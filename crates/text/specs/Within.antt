@@ -1,26 +1,23 @@
 -- What holds of octets of which none is above the highest. Assumes nothing.
-use Rattle.std.specs.Prelude.{◌≡◌, ℕ, zero, suc, ◌≤◌, true, List, [], ◌∷◌, length, replicate, nat_le, refl}
-use Rattle.std.proofs.Common.{arith}
-use Rattle.std.specs.List.{AllByRecursion}
-use Rattle.std.proofs.lemmas.Bool.{leb-true, le-leb, and_parts, and_from}
+use Rattle.std.specs.Prelude.{◌≡◌, ℕ, ◌≤◌, true, List, [], ◌∷◌, All, length, replicate, nat_le, refl}
+use Rattle.std.proofs.Common.{ap₂, arith}
+use Rattle.std.proofs.lemmas.Bool.{leb-true, le-leb, and_parts}
+use Rattle.std.proofs.lemmas.List.Elements.{All-weaker}
+use Rattle.std.proofs.lemmas.List.Sums.{AllPass-from_list_all, list_all-from_AllPass}
 use Rattle.text.specs.Text.{within}
 
-pub all_within : (highest : ℕ) (p : List ℕ) → within highest p ≡ true → AllByRecursion (λ b. b ≤ highest) p
-all_within highest [] h = tt
-all_within highest (b ∷ rest) h =
-    let both = and_parts (nat_le b highest) (within highest rest) h in
-    (leb-true b highest both.0, all_within highest rest both.1)
+module _ (highest : ℕ) (p : List ℕ) where
+  pub all_within : within highest p ≡ true → All (λ b. b ≤ highest) p
+  all_within h =
+      All-weaker (λ b. nat_le b highest ≡ true) (λ b. b ≤ highest) (λ b. leb-true b highest) p (AllPass-from_list_all (λ b. nat_le b highest) p h)
 
-pub within_all : (highest : ℕ) (p : List ℕ) → AllByRecursion (λ b. b ≤ highest) p → within highest p ≡ true
-within_all highest [] h = refl
-within_all highest (b ∷ rest) h = and_from (nat_le b highest) (within highest rest) (le-leb b highest h.0) (within_all highest rest h.1)
+  pub within_all : All (λ b. b ≤ highest) p → within highest p ≡ true
+  within_all h =
+      list_all-from_AllPass (λ b. nat_le b highest) p (All-weaker (λ b. b ≤ highest) (λ b. nat_le b highest ≡ true) (λ b. le-leb b highest) p h)
 
-pub all_zeros : (highest n : ℕ) → AllByRecursion (λ b. b ≤ highest) (replicate n 0)
-all_zeros highest zero = tt
-all_zeros highest (suc n) = (omega arith, all_zeros highest n)
-
-pub zeros : (p : List ℕ) → AllByRecursion (λ b. b ≤ 0) p → replicate (length p) 0 ≡ p
+pub zeros : (p : List ℕ) → within 0 p ≡ true → replicate (length p) 0 ≡ p
 zeros [] h = refl
 zeros (b ∷ rest) h =
-    let here : 0 ≡ b = omega (arith, h.0) in
-    λ i. here i ∷ zeros rest h.1 i
+    let both = and_parts (nat_le b 0) (within 0 rest) h in
+    let here : 0 ≡ b = omega (arith, leb-true b 0 both.0) in
+    ap₂ ◌∷◌ here (zeros rest both.1)

@@ -1,6 +1,7 @@
 // Text of fourteen characters. What stands after the first 00 reads 0.
-ghost use Rattle.std.specs.Prelude.{◌≡◌, ◌<◌, ◌≤◌, map, length, pos};
-ghost use Rattle.text.specs.Text.{within, characters, cleared, ended, text};
+ghost use Rattle.std.specs.Prelude.{◌≡◌, ◌<◌, ◌≤◌, Any, map, length, pos, MatchOption};
+ghost use Rattle.std.specs.Int.{FitsUnsignedBits};
+ghost use Rattle.text.specs.Text.{within, legal, characters, cleared, ended, text};
 ghost use Rattle.text.specs.Laws;
 
 use datapoint::datapoint_type::{Counts, DatapointType};
@@ -18,6 +19,23 @@ pub struct Text {
     ghost octet: { highest < 256 },
 }
 
+impl Text {
+    // Whether no octet is above the highest, also after a 00.
+    fn is_legal(self, payload: &[u8; OCTETS]) -> bool
+        ensures { result ≡ legal self.highest payload.now }
+    {
+        within(self.highest, payload)
+    }
+
+    // The proper payload of a reading, if the reading is legal.
+    #[tactic(auto, using(crate::proofs::Fields::payload_of_octets, crate::proofs::Fields::payload_of_other))]
+    fn proper(self, reading: &[i64; FIELDS]) -> Option<[u8; OCTETS]>
+        ensures { result ≡ (text self.highest).payload reading.now }
+    {
+        as_octets(reading).filter(|payload| self.is_legal(payload) && ended(payload))
+    }
+}
+
 impl DatapointType for Text {
     ghost meaning = { λ s. text s.highest };
 
@@ -31,82 +49,65 @@ impl DatapointType for Text {
     }
 
     fn read(&self, payload: &[u8], out: &mut [i64]) -> Result<usize, Refusal> {
-        if payload.len() != OCTETS {
-            return Err(Refusal::WrongLength { due: OCTETS });
-        }
-        if !within(self.highest, payload) {
+        let payload = payload
+            .as_array::<OCTETS>()
+            .ok_or(Refusal::WrongLength { due: OCTETS })?;
+        if !self.is_legal(payload) {
             return Err(Refusal::IllegalPayload);
         }
         deliver(&fields(payload), out)
     }
 
     fn write(&self, reading: &[i64], out: &mut [u8]) -> Result<usize, Refusal> {
-        if reading.len() != FIELDS {
-            return Err(Refusal::WrongLength { due: FIELDS });
-        }
-        match proper(self.highest, reading) {
-            Some(payload) => deliver(&payload, out),
-            None => Err(Refusal::IllegalReading),
-        }
+        let reading = reading
+            .as_array::<FIELDS>()
+            .ok_or(Refusal::WrongLength { due: FIELDS })?;
+        let payload = self.proper(reading).ok_or(Refusal::IllegalReading)?;
+        deliver(&payload, out)
     }
 }
 
-// The characters, and then 0.
-fn fields(payload: &[u8]) -> [i64; FIELDS]
-    requires { length payload.now ≡ 14 }
-    ensures { result ≡ map pos (cleared payload.now) }
+// The fields as octets, if each is one.
+fn as_octets(reading: &[i64; FIELDS]) -> Option<[u8; OCTETS]>
+    ensures { MatchOption result (Any (λ x. ¬ FitsUnsignedBits 8 x) reading.now) (λ octets. reading.now ≡ map pos octets) }
 {
-    let mut fields = [0; FIELDS];
-    for (i, character) in characters(payload).iter().enumerate() {
-        fields[i] = i64::from(*character);
-    }
-    fields
-}
-
-// The proper payload of a reading, if the reading is legal.
-fn proper(highest: u8, reading: &[i64]) -> Option<[u8; OCTETS]>
-    requires { length reading.now ≡ 14 }
-    ensures { result ≡ (text highest).payload reading.now }
-{
-    let mut octets = [0; OCTETS];
-    for (i, field) in reading.iter().enumerate() {
-        if *field < 0 || *field > i64::from(highest) {
-            return None;
-        }
-        octets[i] = *field as u8;
-    }
-    if ended(&octets) { Some(octets) } else { None }
+    reading.try_map(u8::try_from).ok()
 }
 
 // Whether no octet is above the highest.
 fn within(highest: u8, octets: &[u8]) -> bool
     ensures { result ≡ within highest octets.now }
 {
-    for octet in octets {
-        if *octet > highest {
-            return false;
-        }
-    }
-    true
+    octets.iter().all(|octet| *octet <= highest)
 }
 
-// The octets before the first 00.
-fn characters(octets: &[u8]) -> &[u8]
-    ensures value { result.now ≡ characters octets.now }
-    ensures short { length result.now ≤ length octets.now }
+// How many characters there are: the octets before the first 00.
+fn character_count(octets: &[u8]) -> usize
+    ensures count { result ≡ length (characters octets.now) }
+    ensures within { result ≤ length octets.now }
 {
-    for (i, octet) in octets.iter().enumerate() {
-        if *octet == 0 {
-            return &octets[0..i];
-        }
-    }
-    octets
+    octets.iter().take_while(|octet| **octet != 0).count()
 }
 
 // Whether nothing but 00 stands after the characters.
 fn ended(octets: &[u8]) -> bool
     ensures { result ≡ ended octets.now }
 {
-    let (_, rest) = octets.split_at(characters(octets).len());
-    within(0, rest)
+    within(0, &octets[character_count(octets)..])
+}
+
+// The characters, and then 00.
+fn cleared(payload: &[u8; OCTETS]) -> [u8; OCTETS]
+    ensures { result ≡ cleared payload.now }
+{
+    let mut cleared = *payload;
+    cleared[character_count(payload)..].fill(0);
+    cleared
+}
+
+// The characters as fields, and then 0.
+fn fields(payload: &[u8; OCTETS]) -> [i64; FIELDS]
+    ensures { result ≡ map pos (cleared payload.now) }
+{
+    cleared(payload).map(i64::from)
 }

@@ -1,5 +1,7 @@
-use Rattle.text.proofs.Loops.{filled_none}
+use Rattle.std.proofs.Common.{ap, map, ◌∙◌, pos, rules}
+use Rattle.text.proofs.Fields.{mapped}
 use Rattle.text.proofs.text.fields.Goals as goal
 
-pub loop-i-init : goal.loop-i-init
-loop-i-init c = filled_none _ c.requires
+pub returns : goal.returns
+returns c =
+    mapped pos c.cleared.result c.map.result 14 0 (pos 0) (search rules) c.map.ensures.items (λ x y p q h. search rules) ∙ ap (map pos) c.cleared.ensures
