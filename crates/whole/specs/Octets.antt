@@ -1,11 +1,10 @@
 -- Octets, the number that they write and its value, over the count of octets. Assumes nothing.
-use Rattle.std.specs.Prelude.{◌≡◌, ℕ, zero, suc, ◌-◌, ◌*◌, ◌/◌, ◌%◌, ◌^◌, ◌<◌, ◌≤◌, List, [], ◌∷◌, ◌++◌, length, take, drop, ℤ, pos, negsuc, Some, None, Option, slice_index, slice_set, refl}
-use Rattle.std.proofs.Common.{ap, ◌∙◌, lt_of_lt_of_le, pow-suc, add-one, sub-one, arith, lit<, Fits}
+use Rattle.std.specs.Prelude.{◌≡◌, ℕ, zero, suc, ◌*◌, ◌/◌, ◌%◌, ◌^◌, ◌<◌, ◌≤◌, List, [], ◌∷◌, All, length, ℤ, pos, negsuc, Some, None, Option, refl}
+use Rattle.std.proofs.Common.{ap, ◌∙◌, pow-suc, arith, lit<}
 use Rattle.std.proofs.Math.Nat.{pow-le-pow_right}
-use Rattle.std.specs.Int.{w8}
 use Rattle.std.proofs.lemmas.Int.Digits.{number_push, number_lt}
-use Rattle.std.proofs.ByRecursion.{All-from_get_or, All-push, All-take}
-use Rattle.std.proofs.lemmas.List.{append_assoc, drop-set, length_push, length-take-le}
+use Rattle.std.proofs.lemmas.List.Elements.{All-nil, All-push, recursion_from_All}
+use Rattle.std.proofs.lemmas.List.{length_push}
 use Rattle.std.proofs.lemmas.Int.{ints}
 use Rattle.std.proofs.lemmas.Bool.Decides.{nat_tests}
 use Rattle.datapoint.specs.Meaning.{Octets, InRange, Lawful}
@@ -17,24 +16,16 @@ use Rattle.whole.specs.Whole.{count, number_in, negative_from, value_of, number_
 below_four : (n : ℕ) → n ≤ 4 → 256 ^ n ≤ 4294967296
 below_four n few = pow-le-pow_right {n = 256} (lit< tt) few
 
--- before the last octet there is room for one more
-pub number_room : (xs : List ℕ) (i : ℕ) → i < length xs → length xs ≤ 4 → ((k : ℕ) → Fits w8 (slice_index xs k)) → number_in (take i xs) < 2 ^ 24
-number_room xs i within few each =
-    let front : length (take i xs) ≤ 3 = omega (arith, length-take-le i xs (omega arith)) in
-    lt_of_lt_of_le (number_lt 256 (take i xs) (All-take _ i xs (All-from_get_or _ xs 0 (λ k _. (each k).fits)))) (pow-le-pow_right {n = 256} (lit< tt) front)
-
--- one octet more is written in front of those that are
-pub octets_next : (place x : ℕ) (xs : List ℕ) → 0 < place → place ≤ length xs → octets_of (place - 1) (x / 256) ++ drop (place - 1) (slice_set xs (place - 1) (x % 256)) ≡ octets_of place x ++ drop place xs
-octets_next zero x xs some within = absurd (omega arith)
-octets_next (suc n) x xs some within = simp (sub-one, drop-set, add-one, append_assoc)
-
 length_octets : (n x : ℕ) → length (octets_of n x) ≡ n
 length_octets zero x = refl
 length_octets (suc n) x = length_push (octets_of n (x / 256)) (x % 256) ∙ omega (arith, length_octets n (x / 256))
 
+all_octets : (n x : ℕ) → All (λ b. b < 256) (octets_of n x)
+all_octets zero x = All-nil (λ b. b < 256)
+all_octets (suc n) x = All-push (λ b. b < 256) (octets_of n (x / 256)) (x % 256) (all_octets n (x / 256)) (omega arith)
+
 are_octets : (n x : ℕ) → Octets (octets_of n x)
-are_octets zero x = tt
-are_octets (suc n) x = All-push _ (octets_of n (x / 256)) (x % 256) (are_octets n (x / 256)) (omega arith)
+are_octets n x = recursion_from_All (λ b. b < 256) (octets_of n x) (all_octets n x)
 
 number_octets : (n x : ℕ) → x < 256 ^ n → number_in (octets_of n x) ≡ x
 number_octets zero x below = omega arith
@@ -60,13 +51,13 @@ module _ (n from : ℕ) (within : from ≤ 256 ^ n) where
 
   -- a legal reading is the value of a number, whose octets are its payload
   writes : (xs : List ℤ) (p : List ℕ) → (in_octets n from).payload xs ≡ Some p → (x : ℕ) × (x < 256 ^ n) × (p ≡ octets_of n x) × (xs ≡ value_of n from x ∷ [])
-  writes [] p is = absurd (grind arith)
+  writes [] p is = cc
   writes (z ∷ []) p is = found (number_of n from z) refl is
     where
       found : (o : Option ℕ) → number_of n from z ≡ o → written n o ≡ Some p → (x : ℕ) × (x < 256 ^ n) × (p ≡ octets_of n x) × (z ∷ [] ≡ value_of n from x ∷ [])
-      found None e is = absurd (grind arith)
+      found None e is = cc
       found (Some x) e is = let v = value_number z x e in (x, v.0, cc, cc)
-  writes (z ∷ (y ∷ zs)) p is = absurd (grind arith)
+  writes (z ∷ (y ∷ zs)) p is = cc
 
   lawful : 1 ≤ n → n ≤ 4 → 256 ^ n ≤ 2 * from → Lawful (in_octets n from)
   lawful some few half = record {

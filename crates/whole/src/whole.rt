@@ -10,20 +10,16 @@ use datapoint::refusal::Refusal;
 // How many octets the number has.
 #[derive(Clone, Copy, PartialEq, Eq, Debug)]
 pub enum Width {
-    One,
-    Two,
-    Four,
+    One = 1,
+    Two = 2,
+    Four = 4,
 }
 
 impl Width {
     fn octets(self) -> usize
         ensures { result ≡ count self }
     {
-        match self {
-            Width::One => 1,
-            Width::Two => 2,
-            Width::Four => 4,
-        }
+        self as usize
     }
 }
 
@@ -41,6 +37,42 @@ pub struct Whole {
 }
 
 impl Whole {
+    // 5.010
+    pub const U8: Whole = Whole {
+        width: Width::One,
+        sign: Sign::Unsigned,
+    };
+
+    // 6.010
+    pub const I8: Whole = Whole {
+        width: Width::One,
+        sign: Sign::TwosComplement,
+    };
+
+    // 7.001
+    pub const U16: Whole = Whole {
+        width: Width::Two,
+        sign: Sign::Unsigned,
+    };
+
+    // 8.001
+    pub const I16: Whole = Whole {
+        width: Width::Two,
+        sign: Sign::TwosComplement,
+    };
+
+    // 12.001
+    pub const U32: Whole = Whole {
+        width: Width::Four,
+        sign: Sign::Unsigned,
+    };
+
+    // 13.001
+    pub const I32: Whole = Whole {
+        width: Width::Four,
+        sign: Sign::TwosComplement,
+    };
+
     // How many numbers the octets can write.
     fn span(self) -> i64
         ensures { result ≡ pos (256 ^ count self.width) }
@@ -84,35 +116,15 @@ impl Whole {
     }
 }
 
-// The number with one octet more behind it.
-fn with_octet(number: u32, octet: u8) -> u32
-    requires { number < 2 ^ 24 }
-    ensures { result ≡ number * 256 + octet }
-{
-    256 * number + u32::from(octet)
-}
-
 // The number that the octets write, the high octet first.
-fn gather(octets: &[u8]) -> u32
+#[tactic(auto, using(crate::proofs::Word::number_in_word))]
+fn number_in(octets: &[u8]) -> u32
     requires { length octets.now ≤ 4 }
     ensures { result ≡ number_in octets.now }
 {
-    let mut number = 0;
-    for octet in octets {
-        number = with_octet(number, *octet);
-    }
-    number
-}
-
-// Writes a number into the octets, the high octet first.
-fn spread(number: u32, octets: &mut [u8])
-    ensures { octets.new ≡ octets_of (length octets.old) number }
-{
-    let mut rest = number;
-    for place in (0..octets.len()).rev() {
-        octets[place] = (rest % 256) as u8;
-        rest /= 256;
-    }
+    let mut word = [0; 4];
+    word[4 - octets.len()..].copy_from_slice(octets);
+    u32::from_be_bytes(word)
 }
 
 impl DatapointType for Whole {
@@ -132,19 +144,15 @@ impl DatapointType for Whole {
         if payload.len() != due {
             return Err(Refusal::WrongLength { due });
         }
-        deliver(&[self.value(gather(payload))], out)
+        deliver(&[self.value(number_in(payload))], out)
     }
 
     fn write(&self, reading: &[i64], out: &mut [u8]) -> Result<usize, Refusal> {
         let [value] = reading else {
             return Err(Refusal::WrongLength { due: 1 });
         };
-        let Some(number) = self.number(*value) else {
-            return Err(Refusal::IllegalReading);
-        };
-        let mut octets = [0; 4];
-        let part = &mut octets[0..self.width.octets()];
-        spread(number, part);
-        deliver(part, out)
+        let number = self.number(*value).ok_or(Refusal::IllegalReading)?;
+        let word = number.to_be_bytes();
+        deliver(&word[4 - self.width.octets()..], out)
     }
 }
