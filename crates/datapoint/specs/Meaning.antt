@@ -11,7 +11,7 @@ pub record Meaning : Type 0 where
   -- the one proper payload of each legal reading; None where the reading is not legal
   pub payload : List ℤ → Option (List ℕ)
 
--- a payload is made of octets
+-- a payload is made of octets; by recursion, since std's `All` does not compute at octets in a row
 abbrev pub Octets : List ℕ → Type 0
 Octets p = AllByRecursion (λ b. b < 256) p
 

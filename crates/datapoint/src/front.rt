@@ -13,6 +13,6 @@ pub fn deliver<T: Copy>(items: &[T], out: &mut [T]) -> Result<usize, Refusal>
     if out.len() < needed {
         return Err(Refusal::ShortBuffer { needed });
     }
-    out[0..needed].copy_from_slice(items);
+    out[..needed].copy_from_slice(items);
     Ok(needed)
 }

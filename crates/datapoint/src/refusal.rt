@@ -1,6 +1,9 @@
 // The twelve refusals.
-ghost use Rattle.std.specs.Prelude.{◌≡◌};
-ghost use Rattle.datapoint.specs.Refusals.{told};
+ghost use Rattle.std.specs.Prelude.{◌≡◌, Some};
+ghost use Rattle.datapoint.specs.Refusals.{told, printed};
+
+use std::error::Error;
+use std::fmt;
 
 // Why a call was refused.
 #[derive(Clone, Copy, PartialEq, Eq, Debug)]
@@ -52,3 +55,19 @@ impl Refusal {
         }
     }
 }
+
+// The number, and the count that comes with it: "9", or "8, 3 due".
+impl fmt::Display for Refusal {
+    ghost output = { λ e. Some (printed e) };
+
+    fn fmt<W: fmt::Write>(&self, f: &mut fmt::Formatter<W>) -> fmt::Result {
+        let number = self.number();
+        match self {
+            Refusal::WrongLength { due } => write!(f, "{number}, {due} due"),
+            Refusal::ShortBuffer { needed } => write!(f, "{number}, {needed} needed"),
+            _ => write!(f, "{number}"),
+        }
+    }
+}
+
+impl Error for Refusal {}
