@@ -1,8 +1,8 @@
 -- The float of two octets: a sign bit S, four bits of exponent E and eleven bits of fraction F. Assumes nothing.
 use Rattle.std.specs.Prelude.{◌≡◌, ℕ, ◌+◌, ◌*◌, ◌/◌, ◌%◌, ◌^◌, ◌≤◌, Bool, not, ◌&&◌, List, [], ◌∷◌, ℤ, pos, negsuc, ◌+ℤ◌, ◌-ℤ◌, ◌*ℤ◌, Some, None, Option, ◌==◌, int_div, int_le, unsigned_abs}
+use Rattle.std.specs.List.{find, range_with_len}
 use Rattle.datapoint.specs.Meaning.{Meaning, Octets}
 use Rattle.datapoint.specs.Shapes.{when, one, two}
-use Rattle.float.specs.Least.{least}
 
 -- E is bits 6 to 3 of the first octet
 abbrev pub exponent_of : ℕ → ℕ
@@ -58,9 +58,13 @@ abbrev pub packed_at : ℤ → Option ℕ → Option (ℕ × ℕ)
 packed_at x None = None
 packed_at x (Some e) = Some (packed (mantissa_at x e) e)
 
--- the two octets of a reading at the smallest exponent that holds it
-unfoldable pub smallest : ℤ → Option (ℕ × ℕ)
-smallest x = packed_at x (least (held x) 16)
+-- the smallest exponent that holds a reading, of 0 to 15
+unfoldable pub least_exponent : ℤ → Option ℕ
+least_exponent x = find (held x) (range_with_len 0 16)
+
+-- the two octets of a reading at that exponent
+abbrev pub smallest : ℤ → Option (ℕ × ℕ)
+smallest x = packed_at x (least_exponent x)
 
 -- the two octets as a payload, where it is legal
 abbrev pub when_legal : ℤ → ℤ → Option (ℕ × ℕ) → Option (List ℕ)

@@ -1,21 +1,16 @@
 -- The laws of the float. Assumes nothing.
-use Rattle.std.specs.Prelude.{◌≡◌, ℕ, ◌<◌, ◌≤◌, Bool, true, false, List, [], ◌∷◌, ℤ, is_some, Some, None, Option, ◌≢◌, int_le, refl}
-use Rattle.std.proofs.Common.{sym, ap, ◌∙◌, arith}
-use Rattle.std.proofs.lemmas.Bool.{both_ways, and_parts, and_from}
+use Rattle.std.specs.Prelude.{◌≡◌, ℕ, ◌<◌, ◌≤◌, Bool, true, List, [], ◌∷◌, ℤ, is_some, Some, None, Option, int_le, refl}
+use Rattle.std.proofs.Common.{arith}
+use Rattle.std.proofs.lemmas.Bool.{and_parts, and_from}
 use Rattle.datapoint.specs.Meaning.{Lawful, Octets}
 use Rattle.datapoint.specs.Shapes.{when}
-use Rattle.float.specs.Least.{least, IsLeast}
-use Rattle.float.specs.Float.{float, exponent_of, mantissa_of, value_of, valid, legal, mantissa_at, held, packed, packed_at, smallest, when_legal, SmallestExponent}
-use Rattle.float.specs.LeastLemmas.{least_is}
+use Rattle.float.specs.Float.{float, exponent_of, mantissa_of, value_of, valid, legal, mantissa_at, held, packed, packed_at, least_exponent, when_legal, SmallestExponent}
+use Rattle.float.specs.LeastLemmas.{IsLeast, least_is}
 use Rattle.float.specs.Exponents.{held_mantissa, scaled_lies}
 use Rattle.float.specs.Octets.{octets_packed, value_packed, exponent_held, mantissa_lies, value_held, packed_value, exponent_least, smallest_valid}
 
-none_some : {A : Type 0} {a : A} → None ≢ Some a
-none_some q = let z : ◌≡◌ {A = ℕ} 0 1 = cc in omega arith
-
 when_some : {A : Type 0} (b : Bool) (a : A) {c : A} → when b a ≡ Some c → (b ≡ true) × (c ≡ a)
-when_some true a q = (refl, cc)
-when_some false a q = absurd (none_some q)
+when_some b a q = grind arith
 
 module _ (lowest : ℤ) where
   -- a legal payload and its reading
@@ -29,12 +24,12 @@ module _ (lowest : ℤ) where
     passes : legal lowest (value_of high low) high low ≡ true
 
   legal_payload : (p : List ℕ) (xs : List ℤ) → Octets p → (float lowest).reading p ≡ Some xs → Legal p xs
-  legal_payload [] xs o q = absurd (none_some q)
-  legal_payload (high ∷ []) xs o q = absurd (none_some q)
+  legal_payload [] xs o q = cc
+  legal_payload (high ∷ []) xs o q = cc
   legal_payload (high ∷ (low ∷ [])) xs o q =
       let t = when_some (legal lowest (value_of high low) high low) (value_of high low ∷ []) q in
       record { high = high; low = low; payload = refl; high_octet = o.0; low_octet = o.1.0; reading = t.1; passes = t.0 }
-  legal_payload (high ∷ (low ∷ (more ∷ rest))) xs o q = absurd (none_some q)
+  legal_payload (high ∷ (low ∷ (more ∷ rest))) xs o q = cc
 
   -- a legal reading and its proper payload
   record Proper (xs : List ℤ) (p : List ℕ) : Type 0 where
@@ -46,17 +41,17 @@ module _ (lowest : ℤ) where
     passes : legal lowest x (packed (mantissa_at x e) e).0 (packed (mantissa_at x e) e).1 ≡ true
 
   proper_from : (x : ℤ) (p : List ℕ) (o : Option ℕ) → IsLeast (held x) 16 o → when_legal lowest x (packed_at x o) ≡ Some p → Proper (x ∷ []) p
-  proper_from x p None t q = absurd (none_some q)
+  proper_from x p None t q = cc
   proper_from x p (Some e) t q =
       let (high, low) = packed (mantissa_at x e) e in
       let u = when_some (legal lowest x high low) (high ∷ (low ∷ [])) q in
       record { x = x; e = e; reading = refl; found = t; payload = u.1; passes = u.0 }
 
   proper_payload : (xs : List ℤ) (p : List ℕ) → (float lowest).payload xs ≡ Some p → Proper xs p
-  unfolding smallest
-  proper_payload [] p q = absurd (none_some q)
-  proper_payload (x ∷ []) p q = proper_from x p (least (held x) 16) (least_is (held x) 16) q
-  proper_payload (x ∷ (y ∷ rest)) p q = absurd (none_some q)
+  unfolding least_exponent
+  proper_payload [] p q = cc
+  proper_payload (x ∷ []) p q = proper_from x p (least_exponent x) (least_is (held x) 16) q
+  proper_payload (x ∷ (y ∷ rest)) p q = cc
 
   -- the reading of a legal payload has a proper one
   payload_some : (high low : ℕ) → high < 256 → low < 256 → legal lowest (value_of high low) high low ≡ true → (o : Option ℕ) → IsLeast (held (value_of high low)) 16 o → is_some (when_legal lowest (value_of high low) (packed_at (value_of high low) o)) ≡ true
@@ -65,8 +60,7 @@ module _ (lowest : ℤ) where
       let (first, second) = packed (mantissa_at x e) e in
       let u = and_parts (int_le lowest x) (valid high low) passes in
       rw (and_from (int_le lowest x) (valid first second) u.0 (smallest_valid high low e h l t u.1))
-  payload_some high low h l passes None t =
-      absurd (both_ways (held (value_of high low) (exponent_of high)) (t (exponent_of high) (omega arith)) (value_held high low h l))
+  payload_some high low h l passes None t = let held = value_held high low h l in grind arith
 
   -- a proper payload is made of octets, and reads back
   octets_made : (xs : List ℤ) (p : List ℕ) → Proper xs p → Octets p
@@ -80,7 +74,7 @@ module _ (lowest : ℤ) where
       rw (r.payload, r.reading, v, r.passes)
 
   pub lawful : Lawful (float lowest)
-  unfolding smallest
+  unfolding least_exponent
   lawful = record {
     octets_some = omega arith;
     octets_most = omega arith;
@@ -94,7 +88,7 @@ module _ (lowest : ℤ) where
     legal = λ p xs o q.
         let r = legal_payload p xs o q in
         let x = value_of r.high r.low in
-        rw r.reading (payload_some r.high r.low r.high_octet r.low_octet r.passes (least (held x) 16) (least_is (held x) 16));
+        rw r.reading (payload_some r.high r.low r.high_octet r.low_octet r.passes (least_exponent x) (least_is (held x) 16));
     octets_made = λ xs p q. octets_made xs p (proper_payload xs p q);
     back = λ xs p q. back xs p (proper_payload xs p q);
   }
@@ -102,19 +96,16 @@ module _ (lowest : ℤ) where
 smallest_from : (lowest : ℤ) (high low proper_high proper_low : ℕ) → high < 256 → low < 256 → (o : Option ℕ) → IsLeast (held (value_of high low)) 16 o →
     when_legal lowest (value_of high low) (packed_at (value_of high low) o) ≡ Some (proper_high ∷ (proper_low ∷ [])) →
     (exponent_of proper_high ≤ exponent_of high) × (exponent_of proper_high ≡ exponent_of high → (proper_high ≡ high) × (proper_low ≡ low))
-smallest_from lowest high low proper_high proper_low h l None t q = absurd (none_some q)
+smallest_from lowest high low proper_high proper_low h l None t q = cc
 smallest_from lowest high low proper_high proper_low h l (Some e) t q =
-    let x = value_of high low in
-    let (first, second) = packed (mantissa_at x e) e in
-    let u = when_some (legal lowest x first second) (first ∷ (second ∷ [])) q in
-    let a : proper_high ≡ first = cc in
-    let b : proper_low ≡ second = cc in
-    let c : exponent_of proper_high ≡ e = ap exponent_of a ∙ exponent_held x e t.1 t.0 in
-    (omega (arith, exponent_least high low h l e t), λ s. let w = packed_value high low h l e (sym c ∙ s) in (a ∙ w.0, b ∙ w.1))
+    let at = exponent_held (value_of high low) e t.1 t.0 in
+    let least = exponent_least high low h l e t in
+    let same = packed_value high low h l e in
+    grind (arith, when_some)
 
 pub smallest_exponent : SmallestExponent
-unfolding smallest
+unfolding least_exponent
 smallest_exponent lowest high low proper_high proper_low xs o q s =
     let x = value_of high low in
     let u = when_some (legal lowest x high low) (x ∷ []) q in
-    smallest_from lowest high low proper_high proper_low o.0 o.1.0 (least (held x) 16) (least_is (held x) 16) (rw u.1 at s)
+    smallest_from lowest high low proper_high proper_low o.0 o.1.0 (least_exponent x) (least_is (held x) 16) (rw u.1 at s)

@@ -1,30 +1,21 @@
--- The least number that passes a test is the only one that is least. Assumes nothing.
-use Rattle.std.specs.Prelude.{◌≡◌, ℕ, zero, suc, Bool, true, false, Some, None, Option}
-use Rattle.std.proofs.Math.Path.{refl}
-use Rattle.std.proofs.Common.{ap, ◌∙◌, ⊎_elim, arith}
-use Rattle.std.proofs.lemmas.Bool.{both_ways, cases_order, cases_eq}
-use Rattle.datapoint.specs.Shapes.{when}
-use Rattle.float.specs.Least.{least, or_else, IsLeast}
+-- The first number of a range that passes a test is the least. Assumes nothing.
+use Rattle.std.specs.Prelude.{◌≡◌, ℕ, zero, suc, ◌+◌, ◌<◌, Bool, true, false, cond, Some, None, Option, refl}
+use Rattle.std.specs.List.{find, range_with_len}
+use Rattle.std.proofs.Common.{below_more, arith}
 
-module _ (test : ℕ → Bool) where
-  none_more : (n : ℕ) → test n ≡ false → IsLeast test n None → IsLeast test (suc n) None
-  none_more n fails none k l = ⊎_elim (λ here. ap test here ∙ fails) (λ before. none k (omega arith)) (cases_eq k n)
+-- what was found lies below n, passes, and nothing before it does; None where nothing below n passes
+abbrev pub IsLeast : (ℕ → Bool) → ℕ → Option ℕ → Type 0
+IsLeast test n (Some e) = (e < n) × (test e ≡ true) × ((k : ℕ) → k < e → test k ≡ false)
+IsLeast test n None = (k : ℕ) → k < n → test k ≡ false
 
-  least_more : (n : ℕ) (o : Option ℕ) (b : Bool) → test n ≡ b → IsLeast test n o → IsLeast test (suc n) (or_else o (when b n))
-  least_more n (Some e) b q found = (omega arith, found.1, found.2)
-  least_more n None true q none = (omega arith, q, none)
-  least_more n None false q none = none_more n q none
+module _ (test : ℕ → Bool) (n : ℕ) where
+  step : (a : ℕ) (o : Option ℕ) (b : Bool) → test a ≡ b → a < n → ((k : ℕ) → k < a → test k ≡ false) → (((k : ℕ) → k < a + 1 → test k ≡ false) → IsLeast test n o) → IsLeast test n (cond b (Some a) o)
+  step a o true q below none rest = (below, q, none)
+  step a o false q below none rest = rest (below_more _ a none q)
 
-  pub least_is : (n : ℕ) → IsLeast test n (least test n)
-  unfolding least
-  least_is zero = λ k l. absurd (omega arith)
-  least_is (suc n) = least_more n (least test n) (test n) refl (least_is n)
+  from : (a left : ℕ) → a + left ≡ n → ((k : ℕ) → k < a → test k ≡ false) → IsLeast test n (find test (range_with_len a left))
+  from a zero e none = λ k below. none k (omega arith)
+  from a (suc left) e none = step a _ (test a) refl (omega arith) none (from (a + 1) left (omega arith))
 
-  pub least_only : (n : ℕ) (o p : Option ℕ) → IsLeast test n o → IsLeast test n p → o ≡ p
-  least_only n (Some e) (Some k) f g =
-      ⊎_elim (ap Some)
-      (λ apart. absurd (⊎_elim (λ l. both_ways (test e) (g.2 e l) f.1) (λ l. both_ways (test k) (f.2 k l) g.1) apart))
-      (cases_order e k)
-  least_only n (Some e) None f g = absurd (both_ways (test e) (g e f.0) f.1)
-  least_only n None (Some k) f g = absurd (both_ways (test k) (f k g.0) g.1)
-  least_only n None None f g = refl
+  pub least_is : IsLeast test n (find test (range_with_len 0 n))
+  least_is = from 0 n (omega arith) (λ k below. absurd (omega arith))

@@ -1,4 +1,3 @@
-pub mod Least
 pub mod Float
 pub mod Laws
 pub mod LeastLemmas

@@ -1,10 +1,9 @@
 -- The two octets of a mantissa and an exponent. Assumes nothing.
-use Rattle.std.specs.Prelude.{◌≡◌, ℕ, ◌+◌, ◌*◌, ◌/◌, ◌%◌, ◌<◌, ◌≤◌, true, false, ℤ, pos, negsuc, Some}
-use Rattle.std.proofs.Common.{sym, ap₂, ◌∙◌, ⊎_elim, arith}
+use Rattle.std.specs.Prelude.{◌≡◌, ℕ, ◌+◌, ◌*◌, ◌/◌, ◌%◌, ◌<◌, ◌≤◌, true, ℤ, pos, negsuc, Some}
+use Rattle.std.proofs.Common.{sym, ap₂, ◌∙◌, arith}
 use Rattle.std.proofs.lemmas.Int.{ints}
-use Rattle.std.proofs.lemmas.Bool.{both_ways, cases_Bool, cases_lt}
 use Rattle.std.proofs.lemmas.Bool.Decides.{nat_tests}
-use Rattle.float.specs.Least.{IsLeast}
+use Rattle.float.specs.LeastLemmas.{IsLeast}
 use Rattle.float.specs.Float.{exponent_of, mantissa_of, value_of, valid, scaled, mantissa_at, held, fraction, packed}
 use Rattle.float.specs.Exponents.{Mantissa, mantissa_scaled, held_scaled, held_mantissa, scaled_held}
 
@@ -59,22 +58,13 @@ module _ (high low : ℕ) (h : high < 256) (l : low < 256) where
 
   -- the least exponent that holds their reading is no greater than theirs
   pub exponent_least : (e : ℕ) → IsLeast (held (value_of high low)) 16 (Some e) → e ≤ exponent_of high
-  exponent_least e t =
-      ⊎_elim (λ less. absurd (both_ways (held (value_of high low) (exponent_of high)) (t.2 (exponent_of high) less) value_held))
-      (λ no_less. no_less) (cases_lt (exponent_of high) e)
-
-invalid_is : (high low : ℕ) → valid high low ≡ false → (high ≡ 127) × (low ≡ 255)
-invalid_is high low q = (grind (arith, nat_tests), grind (arith, nat_tests))
+  exponent_least e t = let h = value_held in grind arith
 
 -- 7F FF has the greatest exponent, so a reading that has other octets does not go out so
 pub smallest_valid : (high low e : ℕ) → high < 256 → low < 256 → IsLeast (held (value_of high low)) 16 (Some e) → valid high low ≡ true → valid (packed (mantissa_at (value_of high low) e) e).0 (packed (mantissa_at (value_of high low) e) e).1 ≡ true
 smallest_valid high low e h l t passes =
     let x = value_of high low in
-    let (first, second) = packed (mantissa_at x e) e in
-    ⊎_elim (λ valid_too. valid_too)
-    (λ fails.
-    let i = invalid_is first second fails in
-    let q : e ≡ exponent_of high = omega (arith, i, exponent_held x e t.1 t.0, exponent_least high low h l e t) in
-    let w = packed_value high low h l e q in
-    absurd (both_ways (valid high low) (sym (ap₂ valid w.0 w.1) ∙ fails) passes))
-    (cases_Bool (valid first second))
+    let at = exponent_held x e t.1 t.0 in
+    let least = exponent_least high low h l e t in
+    let same = packed_value high low h l e in
+    grind (arith, nat_tests)

@@ -9,12 +9,6 @@ use crate::two_octets::Float;
 use datapoint::datapoint_type::DatapointType;
 use datapoint::refusal::Refusal;
 
-// A lemma, which computes nothing: a reading from -2048 to 2047 goes out with the exponent 0.
-fn plain(reading: i64)
-    requires { (negsuc 2047 ≤ℤ reading) × (reading ≤ℤ pos 2047) }
-    ensures { smallest reading ≡ Some (packed reading 0) }
-{}
-
 // 9.001: the payload 0C 1A reads 2100.
 pub fn room(out: &mut [i64]) -> Result<usize, Refusal>
     ensures { (answer result, out.new) ≡ delivered (pos 2100 ∷ []) out.old }
@@ -30,10 +24,10 @@ pub fn ten_degrees(out: &mut [i64]) -> Result<usize, Refusal>
 }
 
 // 9.001: the reading 1000 goes out as 03 E8.
+#[tactic(auto, using(crate::specs::Exponents::smallest_plain))]
 pub fn ten_degrees_out(out: &mut [u8]) -> Result<usize, Refusal>
     ensures { (answer result, out.new) ≡ delivered (0x03 ∷ (0xe8 ∷ [])) out.old }
 {
-    plain(1000);
     Float::TEMPERATURE.write(&[1000], out)
 }
 
@@ -66,10 +60,10 @@ pub fn no_difference(out: &mut [i64]) -> Result<usize, Refusal>
 }
 
 // 9.002: the reading 0 goes out as 00 00.
+#[tactic(auto, using(crate::specs::Exponents::smallest_plain))]
 pub fn no_difference_out(out: &mut [u8]) -> Result<usize, Refusal>
     ensures { (answer result, out.new) ≡ delivered (0x00 ∷ (0x00 ∷ [])) out.old }
 {
-    plain(0);
     Float::DIFFERENCE.write(&[0], out)
 }
 

@@ -1,7 +1,6 @@
 // The float of two octets. A reading counts hundredths, and goes out with the smallest exponent that holds it.
-ghost use Rattle.std.specs.Prelude.{◌≡◌, ◌^◌, ◌<◌, pos, negsuc, ◌≤ℤ◌};
-ghost use Rattle.float.specs.Least.{IsLeast};
-ghost use Rattle.float.specs.Float.{float, mantissa_of, value_of, legal, mantissa_at, held, packed, smallest, SmallestExponent};
+ghost use Rattle.std.specs.Prelude.{◌≡◌, ◌^◌, ◌<◌, true, pos, negsuc, ◌≤ℤ◌, IfSome};
+ghost use Rattle.float.specs.Float.{float, mantissa_of, value_of, legal, mantissa_at, held, least_exponent, packed, smallest, SmallestExponent};
 ghost use Rattle.float.specs.Laws;
 
 use datapoint::datapoint_type::{Counts, DatapointType};
@@ -28,7 +27,6 @@ impl Float {
         ensures is { result.lowest ≡ lowest }
         ensures smallest { SmallestExponent }
     {
-        smallest_goes_out();
         Float { lowest }
     }
 
@@ -36,14 +34,9 @@ impl Float {
     fn is_legal(self, value: i64, high: u8, low: u8) -> bool
         ensures { result ≡ legal self.lowest value high low }
     {
-        i64::from(self.lowest) <= value && !(high == 0x7f && low == 0xff)
+        i64::from(self.lowest) <= value && (high, low) != (0x7f, 0xff)
     }
 }
-
-// A lemma, which computes nothing: of all payloads with one reading the proper one has the smallest exponent.
-fn smallest_goes_out()
-    ensures { SmallestExponent }
-{}
 
 // What one step of the mantissa counts for.
 fn step(exponent: u8) -> i64
@@ -57,7 +50,7 @@ fn step(exponent: u8) -> i64
 fn mantissa(high: u8, low: u8) -> i64
     ensures { result ≡ mantissa_of high low }
 {
-    let fraction = 256 * u16::from(high % 8) + u16::from(low);
+    let fraction = u16::from_be_bytes([high % 8, low]);
     i64::from(fraction) - 2048 * i64::from(high / 128)
 }
 
@@ -87,27 +80,21 @@ fn is_held(reading: i64, exponent: u8) -> bool
 
 // The smallest exponent that holds a reading.
 fn smallest_exponent(reading: i64) -> Option<u8>
-    ensures { IsLeast (held reading) 16 result }
+    ensures least { result ≡ least_exponent reading }
+    ensures holds { IfSome result (λ e. (e < 16) × (held reading e ≡ true)) }
 {
-    for exponent in 0..16 {
-        if is_held(reading, exponent) {
-            return Some(exponent);
-        }
-    }
-    None
+    (0..16).find(|exponent| is_held(reading, *exponent))
 }
 
-// The two octets of a mantissa and an exponent.
+// The two octets of a mantissa and an exponent. They stay two numbers: in a [u8; 2] each clause would index them.
 fn packed(mantissa: i64, exponent: u8) -> (u8, u8)
     requires { (negsuc 2047 ≤ℤ mantissa) × ((mantissa ≤ℤ pos 2047) × (exponent < 16)) }
     ensures { result ≡ packed mantissa exponent }
 {
     let sign = u8::from(mantissa < 0);
     let fraction = (mantissa + 2048 * i64::from(sign)) as u16;
-    (
-        128 * sign + 8 * exponent + (fraction / 256) as u8,
-        (fraction % 256) as u8,
-    )
+    let [high, low] = fraction.to_be_bytes();
+    (128 * sign + 8 * exponent + high, low)
 }
 
 // The two octets of a reading at the smallest exponent that holds it.
@@ -131,22 +118,23 @@ impl DatapointType for Float {
     }
 
     fn read(&self, payload: &[u8], out: &mut [i64]) -> Result<usize, Refusal> {
-        match payload {
-            [high, low] => match value(*high, *low) {
-                value if self.is_legal(value, *high, *low) => deliver(&[value], out),
-                _ => Err(Refusal::IllegalPayload),
-            },
-            _ => Err(Refusal::WrongLength { due: 2 }),
+        let [high, low] = payload else {
+            return Err(Refusal::WrongLength { due: 2 });
+        };
+        let value = value(*high, *low);
+        if !self.is_legal(value, *high, *low) {
+            return Err(Refusal::IllegalPayload);
         }
+        deliver(&[value], out)
     }
 
     fn write(&self, reading: &[i64], out: &mut [u8]) -> Result<usize, Refusal> {
-        match reading {
-            [value] => match smallest(*value) {
-                Some((high, low)) if self.is_legal(*value, high, low) => deliver(&[high, low], out),
-                _ => Err(Refusal::IllegalReading),
-            },
-            _ => Err(Refusal::WrongLength { due: 1 }),
+        let [value] = reading else {
+            return Err(Refusal::WrongLength { due: 1 });
+        };
+        match smallest(*value) {
+            Some((high, low)) if self.is_legal(*value, high, low) => deliver(&[high, low], out),
+            _ => Err(Refusal::IllegalReading),
         }
     }
 }
