@@ -1,9 +1,8 @@
 // Payloads and readings of the temperature, 9.001, and of the temperature difference, 9.002.
-ghost use Rattle.std.specs.Prelude.{◌≡◌, [], ◌∷◌, pos, negsuc, ◌≤ℤ◌, Some};
+ghost use Rattle.std.specs.Prelude.{◌≡◌, [], ◌∷◌, pos, negsuc};
 ghost use Rattle.datapoint.specs.declared.refusal.Refusal.TheVariants.{IllegalPayload};
 ghost use Rattle.datapoint.specs.Refusals.{answer};
 ghost use Rattle.datapoint.specs.Calls.{delivered, refuse};
-ghost use Rattle.float.specs.Float.{packed, smallest};
 
 use crate::two_octets::Float;
 use datapoint::datapoint_type::DatapointType;

@@ -1,5 +1,6 @@
 // The float of two octets. A reading counts hundredths, and goes out with the smallest exponent that holds it.
 ghost use Rattle.std.specs.Prelude.{◌≡◌, ◌^◌, ◌<◌, true, pos, negsuc, ◌≤ℤ◌, IfSome};
+ghost use Rattle.std.specs.Option.{option_map};
 ghost use Rattle.float.specs.Float.{float, mantissa_of, value_of, legal, mantissa_at, held, least_exponent, packed, smallest, SmallestExponent};
 ghost use Rattle.float.specs.Laws;
 
@@ -38,12 +39,52 @@ impl Float {
     }
 }
 
-// What one step of the mantissa counts for.
-fn step(exponent: u8) -> i64
-    requires { exponent < 16 }
-    ensures { result ≡ pos (2 ^ exponent) }
-{
-    1 << exponent
+// The exponent of a float: four bits.
+#[derive(Clone, Copy)]
+struct Exponent {
+    power: u8,
+    ghost four_bits: { power < 16 },
+}
+
+impl Exponent {
+    fn new(power: u8) -> Exponent
+        requires { power < 16 }
+        ensures { result.power ≡ power }
+    {
+        Exponent { power }
+    }
+
+    // What one step of the mantissa counts for.
+    fn step(self) -> i64
+        ensures { result ≡ pos (2 ^ self.power) }
+    {
+        1 << self.power
+    }
+
+    // The mantissa of a reading.
+    fn mantissa(self, reading: i64) -> i64
+        ensures { result ≡ mantissa_at reading self.power }
+    {
+        reading / self.step()
+    }
+
+    // Whether the reading is M × 2^exponent with M from -2048 to 2047.
+    fn holds(self, reading: i64) -> bool
+        ensures { result ≡ held reading self.power }
+    {
+        let mantissa = self.mantissa(reading);
+        -2048 <= mantissa && mantissa <= 2047 && mantissa * self.step() == reading
+    }
+
+    // The smallest that holds a reading.
+    fn smallest(reading: i64) -> Option<Exponent>
+        ensures least { option_map (λ e. e.power) result ≡ least_exponent reading }
+        ensures holds { IfSome result (λ e. held reading e.power ≡ true) }
+    {
+        (0..16)
+            .map(Exponent::new)
+            .find(|exponent| exponent.holds(reading))
+    }
 }
 
 // The mantissa of a payload.
@@ -58,51 +99,27 @@ fn mantissa(high: u8, low: u8) -> i64
 fn value(high: u8, low: u8) -> i64
     ensures { result ≡ value_of high low }
 {
-    mantissa(high, low) * step(high / 8 % 16)
-}
-
-// The mantissa of a reading at an exponent.
-fn mantissa_at(reading: i64, exponent: u8) -> i64
-    requires { exponent < 16 }
-    ensures { result ≡ mantissa_at reading exponent }
-{
-    reading / step(exponent)
-}
-
-// Whether the reading is M × 2^exponent with M from -2048 to 2047.
-fn is_held(reading: i64, exponent: u8) -> bool
-    requires { exponent < 16 }
-    ensures { result ≡ held reading exponent }
-{
-    let mantissa = mantissa_at(reading, exponent);
-    -2048 <= mantissa && mantissa <= 2047 && mantissa * step(exponent) == reading
-}
-
-// The smallest exponent that holds a reading.
-fn smallest_exponent(reading: i64) -> Option<u8>
-    ensures least { result ≡ least_exponent reading }
-    ensures holds { IfSome result (λ e. (e < 16) × (held reading e ≡ true)) }
-{
-    (0..16).find(|exponent| is_held(reading, *exponent))
+    mantissa(high, low) * Exponent::new(high / 8 % 16).step()
 }
 
 // The two octets of a mantissa and an exponent. They stay two numbers: in a [u8; 2] each clause would index them.
-fn packed(mantissa: i64, exponent: u8) -> (u8, u8)
-    requires { (negsuc 2047 ≤ℤ mantissa) × ((mantissa ≤ℤ pos 2047) × (exponent < 16)) }
-    ensures { result ≡ packed mantissa exponent }
+fn packed(mantissa: i64, exponent: Exponent) -> (u8, u8)
+    requires low { negsuc 2047 ≤ℤ mantissa }
+    requires high { mantissa ≤ℤ pos 2047 }
+    ensures { result ≡ packed mantissa exponent.power }
 {
     let sign = u8::from(mantissa < 0);
     let fraction = (mantissa + 2048 * i64::from(sign)) as u16;
     let [high, low] = fraction.to_be_bytes();
-    (128 * sign + 8 * exponent + high, low)
+    (128 * sign + 8 * exponent.power + high, low)
 }
 
 // The two octets of a reading at the smallest exponent that holds it.
 fn smallest(reading: i64) -> Option<(u8, u8)>
     ensures { result ≡ smallest reading }
 {
-    let exponent = smallest_exponent(reading)?;
-    Some(packed(mantissa_at(reading, exponent), exponent))
+    let exponent = Exponent::smallest(reading)?;
+    Some(packed(exponent.mantissa(reading), exponent))
 }
 
 impl DatapointType for Float {

@@ -1,6 +1,6 @@
 // A whole number in one, two or four octets, the high octet first, unsigned or in two's complement.
-ghost use Rattle.std.specs.Prelude.{◌≡◌, ◌+◌, ◌*◌, ◌^◌, ◌<◌, ◌≤◌, length, pos};
-ghost use Rattle.whole.specs.Whole.{count, number_in, negative_from, value_of, number_of, octets_of, whole};
+ghost use Rattle.std.specs.Prelude.{◌≡◌, ◌^◌, ◌≤◌, length, pos};
+ghost use Rattle.whole.specs.Whole.{count, number_in, negative_from, value_of, number_of, whole};
 ghost use Rattle.whole.specs.Octets.{whole_lawful};
 
 use datapoint::datapoint_type::{Counts, DatapointType};
