@@ -7,7 +7,7 @@ use datapoint::datapoint_type::{Counts, DatapointType};
 use datapoint::front::deliver;
 use datapoint::refusal::Refusal;
 
-#[derive(Clone, Copy)]
+#[derive(Clone, Copy, PartialEq, Eq, Debug)]
 pub struct UpTo {
     pub highest: u8,
     ghost octet: { highest < 256 },
@@ -35,10 +35,7 @@ impl DatapointType for UpTo {
 
     fn write(&self, reading: &[i64], out: &mut [u8]) -> Result<usize, Refusal> {
         match reading {
-            [value] if 0 <= *value && *value <= i64::from(self.highest) => deliver(
-                &[*value as u8],
-                out,
-            ),
+            [value @ 0..] if *value <= i64::from(self.highest) => deliver(&[*value as u8], out),
             [_] => Err(Refusal::IllegalReading),
             _ => Err(Refusal::WrongLength { due: 1 }),
         }

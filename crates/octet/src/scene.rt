@@ -7,11 +7,11 @@ use datapoint::datapoint_type::{Counts, DatapointType};
 use datapoint::front::deliver;
 use datapoint::refusal::Refusal;
 
-// Which bit is the flag.
-#[derive(Clone, Copy)]
+// Which bit is the flag, with what it adds to the octet.
+#[derive(Clone, Copy, PartialEq, Eq, Debug)]
 pub enum Flag {
-    Bit6,
-    Bit7,
+    Bit6 = 64,
+    Bit7 = 128,
 }
 
 impl Flag {
@@ -19,14 +19,11 @@ impl Flag {
     fn weight(self) -> u8
         ensures { result ≡ weight self }
     {
-        match self {
-            Flag::Bit6 => 64,
-            Flag::Bit7 => 128,
-        }
+        self as u8
     }
 }
 
-#[derive(Clone, Copy)]
+#[derive(Clone, Copy, PartialEq, Eq, Debug)]
 pub struct FlaggedScene {
     pub flag: Flag,
 }
