@@ -12,7 +12,7 @@ const OCTETS: usize = 14;
 
 const FIELDS: usize = 14;
 
-// No character is above the highest: 127 in ASCII (16.000), 255 in ISO 8859-1 (16.001).
+// No character is above the highest.
 #[derive(Clone, Copy, PartialEq, Eq, Debug)]
 pub struct Text {
     pub highest: u8,
@@ -20,6 +20,12 @@ pub struct Text {
 }
 
 impl Text {
+    // 16.000
+    pub const ASCII: Text = Text { highest: 127 };
+
+    // 16.001, ISO 8859-1
+    pub const LATIN_1: Text = Text { highest: 255 };
+
     // Whether no octet is above the highest, also after a 00.
     fn is_legal(self, payload: &[u8; OCTETS]) -> bool
         ensures { result ≡ legal self.highest payload.now }
