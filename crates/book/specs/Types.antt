@@ -1,5 +1,6 @@
 -- What a book means, and what its calls deliver. Assumes nothing.
 use Rattle.std.specs.Prelude.{◌≡◌, ℕ, List, ℤ, Some, None, Ok, Err, Option, Result}
+use Rattle.std.specs.Option.{option_or}
 use Rattle.datapoint.specs.declared.datapoint_type.Counts.{Counts}
 use Rattle.datapoint.specs.declared.refusal.Refusal.TheVariants.{UnknownType}
 use Rattle.datapoint.specs.Refusals.{told}
@@ -28,11 +29,6 @@ abbrev pub write_in : Option Meaning → List ℤ → List ℕ → Outcome ℕ
 write_in None xs out = refuse UnknownType out
 write_in (Some m) xs out = write_out m xs out
 
--- of two types for one number, the first where there is one
-abbrev pub first_of : Option Meaning → Option Meaning → Option Meaning
-first_of None second = second
-first_of (Some m) second = Some m
-
--- two books bound as one
+-- two books bound as one: for each type number the first one's type, if it has one, and otherwise the second one's
 abbrev pub bound : Types → Types → Types
-bound first second n = first_of (first n) (second n)
+bound first second n = option_or (first n) (second n)

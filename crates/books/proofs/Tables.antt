@@ -4,7 +4,8 @@ use Rattle.std.proofs.lemmas.Bool.{true≢false, and_parts, and_left, eqb-true, 
 use Rattle.datapoint.specs.Meaning.{Meaning}
 use Rattle.datapoint.specs.Shapes.{when}
 use Rattle.book.specs.declared.number.TypeNumber.{TypeNumber}
-use Rattle.book.specs.Types.{Types, first_of}
+use Rattle.std.specs.Option.{option_or}
+use Rattle.book.specs.Types.{Types}
 use Rattle.books.specs.Rows.{Row, in_rows}
 use Rattle.books.specs.General.{general, general_rows}
 use Rattle.books.specs.Heating.{heating, heating_rows}
@@ -20,7 +21,7 @@ abbrev strange : List Row → List Row → Bool
 strange [] b = true
 strange (r ∷ rest) b = lacks r.main b && strange rest b
 
-none_when : (t : Bool) (m : Meaning) (o : Option Meaning) → t ≡ false → o ≡ None → first_of (when t m) o ≡ None
+none_when : (t : Bool) (m : Meaning) (o : Option Meaning) → t ≡ false → o ≡ None → option_or (when t m) o ≡ None
 none_when true m o f h = absurd (true≢false f)
 none_when false m o f h = h
 
@@ -31,7 +32,7 @@ lacks_none n (r ∷ rest) h =
     none_when _ r.meaning _ (and_left _ _ (not-true _ parts.0)) (lacks_none n rest parts.1)
 
 -- either the row has the main number, or what there is stands in the rest
-split : (s t : Bool) (m : Meaning) (o b : Option Meaning) → (s ≡ true → b ≡ None) → (is_some o ≡ true → b ≡ None) → is_some (first_of (when (s && t) m) o) ≡ true → b ≡ None
+split : (s t : Bool) (m : Meaning) (o b : Option Meaning) → (s ≡ true → b ≡ None) → (is_some o ≡ true → b ≡ None) → is_some (option_or (when (s && t) m) o) ≡ true → b ≡ None
 split true t m o b f g h = f refl
 split false t m o b f g h = g h
 
@@ -43,7 +44,7 @@ strange_none n (r ∷ rest) b e h =
     (λ same. lacks_none n b (rw (eqb-true n.main r.main same) parts.0))
     (strange_none n rest b parts.1) h
 
-either_first : (a b : Option Meaning) → (is_some a ≡ true → b ≡ None) → first_of a b ≡ first_of b a
+either_first : (a b : Option Meaning) → (is_some a ≡ true → b ≡ None) → option_or a b ≡ option_or b a
 either_first None None h = refl
 either_first None (Some m) h = refl
 either_first (Some m) b h = rw (h refl)

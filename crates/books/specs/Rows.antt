@@ -2,7 +2,8 @@
 use Rattle.std.specs.Prelude.{ℕ, ◌&&◌, List, [], ◌∷◌, None, ◌==◌, nat_le}
 use Rattle.datapoint.specs.Meaning.{Meaning}
 use Rattle.datapoint.specs.Shapes.{when}
-use Rattle.book.specs.Types.{Types, first_of}
+use Rattle.std.specs.Option.{option_or}
+use Rattle.book.specs.Types.{Types}
 
 -- the numbers main.first to main.last have one type
 pub record Row : Type 0 where
@@ -21,4 +22,4 @@ in_row r n = when (n.main == r.main && (nat_le r.first n.sub && nat_le n.sub r.l
 -- the types of all rows, and no other
 abbrev pub in_rows : List Row → Types
 in_rows [] n = None
-in_rows (r ∷ rest) n = first_of (in_row r n) (in_rows rest n)
+in_rows (r ∷ rest) n = option_or (in_row r n) (in_rows rest n)

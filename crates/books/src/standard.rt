@@ -1,8 +1,4 @@
 // The types that the books have.
-ghost use Rattle.std.specs.Prelude.{◌≡◌};
-ghost use Rattle.std.specs.Option.{option_map};
-ghost use Rattle.datapoint.specs.Refusals.{answer};
-ghost use Rattle.book.specs.Types.{counts_in, read_in, write_in};
 ghost use Rattle.books.specs.Standard.{meaning_of};
 ghost use Rattle.books.specs.Laws.{standard_lawful};
 
@@ -91,43 +87,5 @@ impl DatapointType for StandardType {
             StandardType::Colour(t) => t.write(reading, out),
             StandardType::WithStatus(t) => t.write(reading, out),
         }
-    }
-}
-
-// The counts of a found type.
-pub(crate) fn counts_in(found: Option<StandardType>) -> Result<Counts, Refusal>
-    ensures { answer result ≡ counts_in (option_map meaning_of found) }
-{
-    match found {
-        Some(standard) => Ok(standard.counts()),
-        None => Err(Refusal::UnknownType),
-    }
-}
-
-// Reads a payload by a found type.
-pub(crate) fn read_in(
-    found: Option<StandardType>,
-    payload: &[u8],
-    out: &mut [i64],
-) -> Result<usize, Refusal>
-    ensures { (answer result, out.new) ≡ read_in (option_map meaning_of found) payload.now out.old }
-{
-    match found {
-        Some(standard) => standard.read(payload, out),
-        None => Err(Refusal::UnknownType),
-    }
-}
-
-// Writes a reading by a found type.
-pub(crate) fn write_in(
-    found: Option<StandardType>,
-    reading: &[i64],
-    out: &mut [u8],
-) -> Result<usize, Refusal>
-    ensures { (answer result, out.new) ≡ write_in (option_map meaning_of found) reading.now out.old }
-{
-    match found {
-        Some(standard) => standard.write(reading, out),
-        None => Err(Refusal::UnknownType),
     }
 }
