@@ -33,59 +33,40 @@ pub enum StandardType {
     WithStatus(Joined<UpTo, UpTo>),
 }
 
+// The same call of whichever type it is.
+macro_rules! with_type {
+    ($standard:expr, $t:ident => $call:expr) => {
+        match $standard {
+            StandardType::UpTo($t) => $call,
+            StandardType::Controlled($t) => $call,
+            StandardType::Stepped($t) => $call,
+            StandardType::FlaggedScene($t) => $call,
+            StandardType::Whole($t) => $call,
+            StandardType::Float($t) => $call,
+            StandardType::TimeOfDay($t) => $call,
+            StandardType::DateOnly($t) => $call,
+            StandardType::DateAndTime($t) => $call,
+            StandardType::Text($t) => $call,
+            StandardType::Colour($t) => $call,
+            StandardType::WithStatus($t) => $call,
+        }
+    };
+}
+
 impl DatapointType for StandardType {
     ghost meaning = { meaning_of };
 
     ghost lawful = { standard_lawful };
 
     fn counts(&self) -> Counts {
-        match self {
-            StandardType::UpTo(t) => t.counts(),
-            StandardType::Controlled(t) => t.counts(),
-            StandardType::Stepped(t) => t.counts(),
-            StandardType::FlaggedScene(t) => t.counts(),
-            StandardType::Whole(t) => t.counts(),
-            StandardType::Float(t) => t.counts(),
-            StandardType::TimeOfDay(t) => t.counts(),
-            StandardType::DateOnly(t) => t.counts(),
-            StandardType::DateAndTime(t) => t.counts(),
-            StandardType::Text(t) => t.counts(),
-            StandardType::Colour(t) => t.counts(),
-            StandardType::WithStatus(t) => t.counts(),
-        }
+        with_type!(self, t => t.counts())
     }
 
     fn read(&self, payload: &[u8], out: &mut [i64]) -> Result<usize, Refusal> {
-        match self {
-            StandardType::UpTo(t) => t.read(payload, out),
-            StandardType::Controlled(t) => t.read(payload, out),
-            StandardType::Stepped(t) => t.read(payload, out),
-            StandardType::FlaggedScene(t) => t.read(payload, out),
-            StandardType::Whole(t) => t.read(payload, out),
-            StandardType::Float(t) => t.read(payload, out),
-            StandardType::TimeOfDay(t) => t.read(payload, out),
-            StandardType::DateOnly(t) => t.read(payload, out),
-            StandardType::DateAndTime(t) => t.read(payload, out),
-            StandardType::Text(t) => t.read(payload, out),
-            StandardType::Colour(t) => t.read(payload, out),
-            StandardType::WithStatus(t) => t.read(payload, out),
-        }
+        with_type!(self, t => t.read(payload, out))
     }
 
     fn write(&self, reading: &[i64], out: &mut [u8]) -> Result<usize, Refusal> {
-        match self {
-            StandardType::UpTo(t) => t.write(reading, out),
-            StandardType::Controlled(t) => t.write(reading, out),
-            StandardType::Stepped(t) => t.write(reading, out),
-            StandardType::FlaggedScene(t) => t.write(reading, out),
-            StandardType::Whole(t) => t.write(reading, out),
-            StandardType::Float(t) => t.write(reading, out),
-            StandardType::TimeOfDay(t) => t.write(reading, out),
-            StandardType::DateOnly(t) => t.write(reading, out),
-            StandardType::DateAndTime(t) => t.write(reading, out),
-            StandardType::Text(t) => t.write(reading, out),
-            StandardType::Colour(t) => t.write(reading, out),
-            StandardType::WithStatus(t) => t.write(reading, out),
-        }
+        with_type!(self, t => t.write(reading, out))
     }
 }
