@@ -1,2 +1,3 @@
 pub mod Types
+pub mod Number
 pub mod Lawful

@@ -1,7 +1,7 @@
 -- The text of a line. Assumes nothing.
-use Rattle.std.specs.Prelude.{ℕ, cond, List, [], ◌∷◌, ◌++◌, ℤ, Some, None, codes, decimal, Option, nat_lt}
+use Rattle.std.specs.Prelude.{ℕ, List, [], ◌∷◌, ◌++◌, ℤ, Some, None, codes, decimal, Option}
 use Rattle.std.specs.Fmt.{signed_decimal}
-use Rattle.book.specs.declared.number.TypeNumber.{TypeNumber}
+pub use Rattle.book.specs.Number.{padding, show_sub, show_number}
 use Rattle.listing.specs.Row.{Row}
 
 -- the fields in order, with commas
@@ -14,16 +14,6 @@ show_fields (x ∷ (y ∷ xs)) = signed_decimal x ++ (codes "," ++ show_fields (
 abbrev pub show_reading : Option (List ℤ) → List ℕ
 show_reading None = codes "none"
 show_reading (Some xs) = show_fields xs
-
--- a sub number of fewer than three digits is padded with zeros to three
-abbrev pub padding : ℕ → List ℕ
-padding n = cond (nat_lt n 10) (codes "00") (cond (nat_lt n 100) (codes "0") [])
-
-abbrev pub show_sub : ℕ → List ℕ
-show_sub n = padding n ++ decimal n
-
-abbrev pub show_number : TypeNumber → List ℕ
-show_number n = decimal n.main ++ (codes "." ++ show_sub n.sub)
 
 -- four keys in this order, one space between, and the octet 0A
 abbrev pub show_row : Row → List ℕ
