@@ -1,6 +1,7 @@
 -- The types of both books are lawful. Assumes nothing.
-use Rattle.std.specs.Prelude.{◌≡◌, ℕ, Bool, true, false, List, [], ◌∷◌, pos, negsuc, Some, None, ◌≢◌}
-use Rattle.std.proofs.Common.{arith, lit<}
+use Rattle.std.specs.Prelude.{◌≡◌, Bool, true, false, List, [], ◌∷◌, pos, negsuc, Some}
+use Rattle.std.proofs.Common.{lit<}
+use Rattle.std.proofs.lemmas.Option.{none-some}
 use Rattle.std.specs.List.{AllByRecursion}
 use Rattle.datapoint.specs.Meaning.{Meaning, Lawful}
 use Rattle.datapoint.specs.Shapes.{when}
@@ -44,16 +45,13 @@ standard_lawful (Colour t) =
     (joined_lawful _ _ (whole_lawful t.second.first.width t.second.first.sign) (whole_lawful t.second.second.width t.second.second.sign))
 standard_lawful (WithStatus t) = joined_lawful _ _ (up_to_lawful t.first.highest t.first.octet) (up_to_lawful t.second.highest t.second.octet)
 
-never : (m : Meaning) → None ≢ Some m
-never m h = let z : ◌≡◌ {A = ℕ} 0 1 = cc in omega arith
-
 when_lawful : (test : Bool) (a m : Meaning) → Lawful a → when test a ≡ Some m → Lawful m
 when_lawful true a m l h = let same : a ≡ m = cc in rw (← same) l
-when_lawful false a m l h = absurd (never m h)
+when_lawful false a m l h = absurd (none-some m h)
 
 -- a table of lawful types is a lawful book
 in_rows_lawful : (rs : List Row) → AllByRecursion (λ r. Lawful r.meaning) rs → LawfulTypes (in_rows rs)
-in_rows_lawful [] ls n m h = absurd (never m h)
+in_rows_lawful [] ls n m h = absurd (none-some m h)
 in_rows_lawful (r ∷ rest) ls n m h = bound_lawful {a = in_row r} {b = in_rows rest} (λ n m. when_lawful _ _ m ls.0) (in_rows_lawful rest ls.1) n m h
 
 -- one row after another

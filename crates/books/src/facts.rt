@@ -15,6 +15,10 @@ const MODE_WITH_STATUS: TypeNumber = TypeNumber {
     sub: 100,
 };
 
+const TEMPERATURE: TypeNumber = TypeNumber { main: 9, sub: 1 };
+
+const UNKNOWN: TypeNumber = TypeNumber { main: 99, sub: 1 };
+
 // 201.100: 01 1F reads 1, 31.
 pub fn mode_with_status(out: &mut [i64]) -> Result<usize, Refusal>
     ensures { (answer result, out.new) ≡ delivered (pos 1 ∷ (pos 31 ∷ [])) out.old }
@@ -33,12 +37,12 @@ pub fn mode_without_status(out: &mut [i64]) -> Result<usize, Refusal>
 pub fn temperature(out: &mut [i64]) -> Result<usize, Refusal>
     ensures { (answer result, out.new) ≡ delivered (pos 2100 ∷ []) out.old }
 {
-    house_books().read(TypeNumber { main: 9, sub: 1 }, &[0x0c, 0x1a], out)
+    house_books().read(TEMPERATURE, &[0x0c, 0x1a], out)
 }
 
 // 99.001: no book of the house has it.
 pub fn unknown(out: &mut [i64]) -> Result<usize, Refusal>
     ensures { (answer result, out.new) ≡ refuse UnknownType out.old }
 {
-    house_books().read(TypeNumber { main: 99, sub: 1 }, &[0x00], out)
+    house_books().read(UNKNOWN, &[0x00], out)
 }

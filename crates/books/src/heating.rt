@@ -5,7 +5,7 @@ ghost use Rattle.books.specs.Heating.{heating, with_status};
 ghost use Rattle.books.specs.Standard.{meaning_of};
 ghost use Rattle.books.specs.Laws.{heating_lawful};
 
-use crate::standard::StandardType;
+use crate::standard::{StandardType, up_to};
 use book::book::Book;
 use book::number::TypeNumber;
 use joined::join::Joined;
@@ -22,23 +22,24 @@ impl Book for HeatingBook {
     ghost lawful = { λ s. heating_lawful };
 
     fn type_of(&self, number: TypeNumber) -> Option<StandardType> {
-        match (number.main, number.sub) {
-            (20, 100) => Some(StandardType::UpTo(UpTo { highest: 3 })),
-            (20, 102..=103) => Some(StandardType::UpTo(UpTo { highest: 4 })),
-            (20, 104) => Some(StandardType::UpTo(UpTo { highest: 2 })),
-            (200, 100) => Some(with_status(UpTo { highest: 1 })),
-            (201, sub @ 100..=102) if sub != 101 => Some(with_status(UpTo { highest: 4 })),
-            _ => None,
-        }
+        let found = match (number.main, number.sub) {
+            (20, 100) => up_to(3),
+            (20, 102..=103) => up_to(4),
+            (20, 104) => up_to(2),
+            (200, 100) => with_status(1),
+            (201, sub @ 100..=102) if sub != 101 => with_status(4),
+            _ => return None,
+        };
+        Some(found)
     }
 }
 
-// A type joined with a status octet.
-fn with_status(first: UpTo) -> StandardType
-    ensures { meaning_of result ≡ with_status (up_to first.highest) }
+// An octet up to the highest, joined with a status octet.
+fn with_status(highest: u8) -> StandardType
+    ensures { meaning_of result ≡ with_status (up_to highest) }
 {
     StandardType::WithStatus(Joined {
-        first,
+        first: UpTo { highest },
         second: UpTo { highest: 31 },
     })
 }

@@ -11,6 +11,7 @@ use book::book::Book;
 use book::bound::Bound;
 
 // The general book bound before the heating book.
+#[tactic(auto, using(crate::proofs::Tables::apart, crate::proofs::Tables::named))]
 pub fn house_books() -> Bound<GeneralBook, HeatingBook>
     ensures is { bound (⟦<GeneralBook as Book>⟧.types result.first) (⟦<HeatingBook as Book>⟧.types result.second) ≡ bound general heating }
     ensures apart { Apart }

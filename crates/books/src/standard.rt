@@ -1,4 +1,6 @@
 // The types that the books have.
+ghost use Rattle.std.specs.Prelude.{◌≡◌};
+ghost use Rattle.octet.specs.Range.{up_to};
 ghost use Rattle.books.specs.Standard.{meaning_of};
 ghost use Rattle.books.specs.Laws.{standard_lawful};
 
@@ -31,6 +33,13 @@ pub enum StandardType {
     Text(Text),
     Colour(Joined<Whole, Joined<Whole, Whole>>),
     WithStatus(Joined<UpTo, UpTo>),
+}
+
+// An octet up to the highest.
+pub(crate) fn up_to(highest: u8) -> StandardType
+    ensures { meaning_of result ≡ up_to highest }
+{
+    StandardType::UpTo(UpTo { highest })
 }
 
 // The same call of whichever type it is.
