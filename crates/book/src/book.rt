@@ -15,7 +15,7 @@ pub trait Book {
 
     ghost types: { Self → Types };
 
-    // The type that has a number, if any has.
+    // The type that has a number, if any has. The three calls below do what it does.
     fn type_of(&self, number: TypeNumber) -> Option<Self::Type>
         ensures { option_map Self.Type.meaning result ≡ types self.now number };
 

@@ -9,7 +9,7 @@ use datapoint::datapoint_type::{Counts, DatapointType};
 use datapoint::refusal::Refusal;
 use either::{Either, Left, Right, for_both};
 
-// A type of the first book or of the second.
+// A type of the first book or of the second: the kit's `Either`, wrapped so that it can be a datapoint type here.
 #[derive(Clone, Copy, Debug)]
 pub struct BoundType<A, B>(pub Either<A, B>);
 
