@@ -4,9 +4,11 @@
 use std::io;
 
 mod dial;
+mod exhibit;
+mod numbers;
 mod plate;
-mod print;
 mod shelf;
+mod shown;
 mod wall;
 
 fn main(rt: HostRuntime) -> io::Result<()> {

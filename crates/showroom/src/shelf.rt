@@ -1,32 +1,20 @@
 // The books of the house.
-use crate::print;
+use crate::numbers::{MODE_WITH_STATUS, NOWHERE};
+use crate::shown::{Fields, Numbered, Octets};
 use book::book::Book;
 use book::number::TypeNumber;
 use books::house::house_books;
 use std::io;
 
-// A payload through a book: its reading, or the number of the refusal.
-fn payload<B: Book>(
-    rt: &HostRuntime,
-    book: &B,
-    number: TypeNumber,
-    payload: &[u8],
-) -> io::Result<()> {
-    let main = number.main;
-    let sub = number.sub;
+// Prints what a payload reads as through a book, or the number of the refusal.
+fn show<B: Book>(rt: &HostRuntime, book: &B, number: TypeNumber, payload: &[u8]) -> io::Result<()> {
+    let shown = Numbered(number);
+    let given = Octets(payload);
+    print!(rt; "   As {shown}, {given} ")?;
     let mut reading = [0; 16];
-    print!(rt; "   As {main}.{sub:03},")?;
-    print::octets(rt, payload)?;
     match book.read(number, payload, &mut reading) {
-        Ok(count) => {
-            print!(rt; " gives")?;
-            print::front(rt, &reading, count)?;
-            println!(rt; ".")
-        }
-        Err(refusal) => {
-            let number = refusal.number();
-            println!(rt; " is refused with {number}.")
-        }
+        Ok(count) => println!(rt; "gives {}.", Fields(&reading[..count])),
+        Err(refusal) => println!(rt; "is refused with {}.", refusal.number()),
     }
 }
 
@@ -35,15 +23,7 @@ pub fn visit(rt: &HostRuntime) -> io::Result<()> {
     println!(rt;
         "The heating sends its mode with a status. The heating book, bound behind the general one, has that type."
     )?;
-    payload(
-        rt,
-        &books,
-        TypeNumber {
-            main: 201,
-            sub: 100,
-        },
-        &[0x01, 0x1F],
-    )?;
+    show(rt, &books, MODE_WITH_STATUS, &[0x01, 0x1F])?;
     println!(rt; "No book has the number 99.001.")?;
-    payload(rt, &books, TypeNumber { main: 99, sub: 1 }, &[0x00])
+    show(rt, &books, NOWHERE, &[0x00])
 }
