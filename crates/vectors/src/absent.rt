@@ -1,10 +1,11 @@
 // Type numbers that no book has: those beside each range, and a few far off.
-use crate::came::{ROOM, read_into, write_into};
-use crate::shown::Numbered;
-use crate::tally::Tally;
+use crate::given::{Entry, ROOM};
+use crate::report::Report;
+use crate::shown::Refused;
 use book::book::Book;
 use book::number::TypeNumber;
 use datapoint::refusal::Refusal;
+use std::alloc::{AllocError, Global};
 use std::io;
 
 static ABSENT: [(u16, u16); 57] = [
@@ -68,24 +69,26 @@ static ABSENT: [(u16, u16); 57] = [
 ];
 
 // Whether the book has no type of that number.
-fn is_absent<B: Book>(book: &B, number: TypeNumber) -> bool {
-    read_into(book, number, &[0], ROOM).is_refused(Refusal::UnknownType)
-        && write_into(book, number, &[0], ROOM).is_refused(Refusal::UnknownType)
+fn is_absent<B: Book>(heap: Global, book: &B, number: TypeNumber) -> Result<bool, AllocError> {
+    let entry = Entry { book, number };
+    let refusal = Refusal::UnknownType;
+    let came = entry.call(heap, &[0u8], ROOM)?;
+    let out = entry.call(heap, &[0i64], ROOM)?;
+    Ok(came.is_refused(refusal) && out.is_refused(refusal))
 }
 
-// None of the numbers has a type, whichever of two books is bound first.
-pub fn run_absent<A: Book, B: Book>(
-    rt: &HostRuntime,
-    first: &A,
-    second: &B,
-    tally: &mut Tally,
-) -> io::Result<()> {
-    for row in ABSENT.iter() {
-        let (main, sub) = *row;
+// Tries that none of the numbers has a type, whichever of two books is bound first.
+pub fn try_absent<A: Book, B: Book>(first: &A, second: &B, report: &mut Report) -> io::Result<()> {
+    for (main, sub) in ABSENT.iter().copied() {
         let number = TypeNumber { main, sub };
-        let verdict = tally.verdict(is_absent(first, number) && is_absent(second, number));
-        let number = Numbered(number);
-        println!(rt; "{number}  no type  refused with 4  {verdict}")?;
+        let due = Refused(Refusal::UnknownType);
+        let heap = report.heap();
+        report.row(
+            number,
+            format_args!("no type  refused with {due}"),
+            is_absent(heap, first, number)? && is_absent(heap, second, number)?,
+            "    has a type",
+        )?;
     }
     Ok(())
 }

@@ -2,11 +2,7 @@
 use crate::vector::Page;
 use crate::vector::Vector::{Illegal, Proper};
 
-pub fn heating() -> &'static [Page] {
-    &HEATING
-}
-
-static HEATING: [Page; 6] = [
+pub static HEATING: &[Page] = &[
     // Clause 4.3: the fuel type.
     Page {
         main: 20,

@@ -2,11 +2,7 @@
 use crate::vector::Page;
 use crate::vector::Vector::{Illegal, Proper};
 
-pub fn moments() -> &'static [Page] {
-    &MOMENTS
-}
-
-static MOMENTS: [Page; 1] = [
+pub static MOMENTS: &[Page] = &[
     // Clause 3.20: the ends of the ranges, examples 9 to 11 as times of any day, and the notes.
     Page {
         main: 19,

@@ -2,11 +2,7 @@
 use crate::vector::Page;
 use crate::vector::Vector::{Illegal, Loose, Proper, Unwritable};
 
-pub fn numbers() -> &'static [Page] {
-    &NUMBERS
-}
-
-static NUMBERS: [Page; 8] = [
+pub static NUMBERS: &[Page] = &[
     // Clause 3.8.1: the ends of the range, high octet first.
     Page {
         main: 7,

@@ -2,11 +2,7 @@
 use crate::vector::Page;
 use crate::vector::Vector::{Illegal, Loose, Proper, Unwritable};
 
-pub fn octets() -> &'static [Page] {
-    &OCTETS
-}
-
-static OCTETS: [Page; 17] = [
+pub static OCTETS: &[Page] = &[
     // Clause 3.1: one bit.
     Page {
         main: 1,

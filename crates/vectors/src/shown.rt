@@ -1,37 +1,7 @@
-// How octets, fields, type numbers and refusals are printed.
+// How type numbers and refusals are printed.
 use book::number::TypeNumber;
 use datapoint::refusal::Refusal;
 use std::fmt;
-
-// Octets as two hexadecimal digits each.
-#[derive(Drop)]
-pub struct Octets<'a>(pub &'a [u8]);
-
-impl<'a> fmt::Display for Octets<'a> {
-    fn fmt<W: fmt::Write>(&self, f: &mut fmt::Formatter<W>) -> fmt::Result {
-        let mut gap = "";
-        for octet in self.0 {
-            write!(f, "{gap}{octet:02X}")?;
-            gap = " ";
-        }
-        Ok(())
-    }
-}
-
-// Fields in decimal, with commas.
-#[derive(Drop)]
-pub struct Fields<'a>(pub &'a [i64]);
-
-impl<'a> fmt::Display for Fields<'a> {
-    fn fmt<W: fmt::Write>(&self, f: &mut fmt::Formatter<W>) -> fmt::Result {
-        let mut comma = "";
-        for field in self.0 {
-            write!(f, "{comma}{field}")?;
-            comma = ",";
-        }
-        Ok(())
-    }
-}
 
 // A type number as 9.001.
 #[derive(Drop)]
@@ -53,9 +23,9 @@ impl fmt::Display for Refused {
     fn fmt<W: fmt::Write>(&self, f: &mut fmt::Formatter<W>) -> fmt::Result {
         let number = self.0.number();
         match self.0 {
-            Refusal::WrongLength { due } => write!(f, "refused with {number}, {due} due"),
-            Refusal::ShortBuffer { needed } => write!(f, "refused with {number}, {needed} needed"),
-            _ => write!(f, "refused with {number}"),
+            Refusal::WrongLength { due } => write!(f, "{number}, {due} due"),
+            Refusal::ShortBuffer { needed } => write!(f, "{number}, {needed} needed"),
+            _ => write!(f, "{number}"),
         }
     }
 }

@@ -2,11 +2,7 @@
 use crate::vector::Page;
 use crate::vector::Vector::{Illegal, Loose, Proper, Unwritable};
 
-pub fn texts() -> &'static [Page] {
-    &TEXTS
-}
-
-static TEXTS: [Page; 2] = [
+pub static TEXTS: &[Page] = &[
     // Clause 3.17: example 8. What follows the first 00 reads 0.
     Page {
         main: 16,

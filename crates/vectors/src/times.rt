@@ -2,11 +2,7 @@
 use crate::vector::Page;
 use crate::vector::Vector::{Illegal, Proper, Unwritable};
 
-pub fn times() -> &'static [Page] {
-    &TIMES
-}
-
-static TIMES: [Page; 2] = [
+pub static TIMES: &[Page] = &[
     // Clause 3.11: the ends of the ranges.
     Page {
         main: 10,

@@ -2,11 +2,7 @@
 use crate::vector::Page;
 use crate::vector::Vector::{Illegal, Loose};
 
-pub fn voids() -> &'static [Page] {
-    &VOIDS
-}
-
-static VOIDS: [Page; 1] = [
+pub static VOIDS: &[Page] = &[
     // Clause 3.20: a voided field has anything in its own bits, and reads 0.
     Page {
         main: 19,

@@ -1,0 +1,79 @@
+// What a book is given, and what comes of it.
+use crate::came::Came;
+use crate::item::Item;
+use book::book::Book;
+use book::number::TypeNumber;
+use datapoint::refusal::Refusal;
+use std::alloc::{AllocError, Global};
+
+// The places of a buffer with room for any payload and reading.
+pub const ROOM: usize = 17;
+
+// An octet of a payload to be read, or a field of a reading to be written.
+pub trait Given: Item {
+    // What an item of the other kind is.
+    type Out: Item;
+
+    // Why a book refuses items that are not legal.
+    const ILLEGAL: Refusal;
+
+    fn call<B: Book>(
+        book: &B,
+        number: TypeNumber,
+        given: &[Self],
+        out: &mut [Self::Out],
+    ) -> Result<usize, Refusal>
+    where
+        Self: Sized;
+}
+
+impl Given for u8 {
+    type Out = i64;
+
+    const ILLEGAL: Refusal = Refusal::IllegalPayload;
+
+    fn call<B: Book>(
+        book: &B,
+        number: TypeNumber,
+        given: &[u8],
+        out: &mut [i64],
+    ) -> Result<usize, Refusal> {
+        book.read(number, given, out)
+    }
+}
+
+impl Given for i64 {
+    type Out = u8;
+
+    const ILLEGAL: Refusal = Refusal::IllegalReading;
+
+    fn call<B: Book>(
+        book: &B,
+        number: TypeNumber,
+        given: &[i64],
+        out: &mut [u8],
+    ) -> Result<usize, Refusal> {
+        book.write(number, given, out)
+    }
+}
+
+// A book at one type number.
+#[derive(Drop)]
+pub struct Entry<'a, B> {
+    pub book: &'a B,
+    pub number: TypeNumber,
+}
+
+impl<B: Book> Entry<'_, B> {
+    // What comes of a call into a buffer of that many places.
+    pub fn call<T: Given>(
+        &self,
+        heap: Global,
+        given: &[T],
+        room: usize,
+    ) -> Result<Came<T::Out>, AllocError> {
+        let mut out = vec![in heap; T::Out::BLANK; room]?;
+        let answer = T::call(self.book, self.number, given, &mut out);
+        Ok(Came { answer, out })
+    }
+}

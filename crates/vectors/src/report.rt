@@ -1,0 +1,55 @@
+// The rows that are printed, and their counts.
+use crate::shown::Numbered;
+use book::number::TypeNumber;
+use std::alloc::Global;
+use std::fmt::Display;
+use std::io;
+
+#[derive(Drop)]
+pub struct Report {
+    rt: HostRuntime,
+    rows: usize,
+    differing: usize,
+}
+
+impl Report {
+    pub fn new(rt: HostRuntime) -> Report {
+        Report {
+            rt,
+            rows: 0,
+            differing: 0,
+        }
+    }
+
+    pub fn heap(&self) -> Global {
+        self.rt.alloc()
+    }
+
+    // Prints a line over rows.
+    pub fn heading(&self, text: &str) -> io::Result<()> {
+        println!(self.rt; "{text}")
+    }
+
+    // Prints and counts a row, with what came in place of what was due below one that differs.
+    pub fn row(
+        &mut self,
+        number: TypeNumber,
+        said: impl Display + Drop,
+        agrees: bool,
+        came: impl Display + Drop,
+    ) -> io::Result<()> {
+        let number = Numbered(number);
+        self.rows = self.rows.saturating_add(1);
+        if agrees {
+            return println!(self.rt; "{number}  {said}  ok");
+        }
+        self.differing = self.differing.saturating_add(1);
+        println!(self.rt; "{number}  {said}  DIFFERS")?;
+        println!(self.rt; "{came}")
+    }
+
+    // Prints how many rows there are and how many differ.
+    pub fn end(&self) -> io::Result<()> {
+        println!(self.rt; "{} rows, {} differ", self.rows, self.differing)
+    }
+}

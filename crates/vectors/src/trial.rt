@@ -1,0 +1,168 @@
+// Calls of a book at one type number, and a row for each.
+use crate::came::Came;
+use crate::given::{Entry, Given, ROOM};
+use crate::item::{Item, Items};
+use crate::report::Report;
+use crate::shown::Refused;
+use crate::vector::{Page, Shape, Vector};
+use book::book::Book;
+use book::number::TypeNumber;
+use datapoint::refusal::Refusal;
+use std::alloc::AllocError;
+use std::fmt::Display;
+use std::io;
+
+// Tries each vector of the pages at each type number that its page is for.
+pub fn try_pages<B: Book>(book: &B, pages: &[Page], report: &mut Report) -> io::Result<()> {
+    for page in pages {
+        for sub in page.first..=page.last {
+            let main = page.main;
+            let mut trial = Trial::new(book, TypeNumber { main, sub }, report);
+            for vector in page.vectors {
+                trial.try_vector(vector)?;
+            }
+        }
+    }
+    Ok(())
+}
+
+// Tries calls of other lengths, and with extreme fields, at the type number of each shape.
+pub fn try_shapes<B: Book>(book: &B, shapes: &[Shape], report: &mut Report) -> io::Result<()> {
+    for shape in shapes {
+        let number = TypeNumber {
+            main: shape.main,
+            sub: shape.sub,
+        };
+        Trial::new(book, number, report).try_shape(shape)?;
+    }
+    Ok(())
+}
+
+#[derive(Drop)]
+struct Trial<'a, B> {
+    entry: Entry<'a, B>,
+    report: &'a mut Report,
+}
+
+impl<'a, B: Book> Trial<'a, B> {
+    fn new(book: &'a B, number: TypeNumber, report: &'a mut Report) -> Trial<'a, B> {
+        Trial {
+            entry: Entry { book, number },
+            report,
+        }
+    }
+
+    // What comes of a call into a buffer of that many places.
+    fn call<T: Given>(&self, given: &[T], room: usize) -> Result<Came<T::Out>, AllocError> {
+        self.entry.call(self.report.heap(), given, room)
+    }
+
+    // Prints a row for a call for which a refusal is due.
+    fn refused<T: Item>(
+        &mut self,
+        given: impl Display + Drop,
+        refusal: Refusal,
+        came: &Came<T>,
+    ) -> io::Result<()> {
+        let due = Refused(refusal);
+        let answer = came.answer;
+        self.report.row(
+            self.entry.number,
+            format_args!("{given}  refused with {due}"),
+            came.is_refused(refusal),
+            format_args!("    came {answer:?}"),
+        )
+    }
+
+    fn try_vector(&mut self, vector: &Vector) -> io::Result<()> {
+        match *vector {
+            Vector::Proper(payload, reading) => self.try_reading(payload, reading, payload),
+            Vector::Loose(payload, reading, proper) => self.try_reading(payload, reading, proper),
+            Vector::Illegal(payload) => self.try_illegal(payload),
+            Vector::Unwritable(reading) => self.try_illegal(reading),
+        }
+    }
+
+    // A payload reads so, and the reading goes out as the proper payload, which reads the same.
+    fn try_reading(&mut self, payload: &[u8], reading: &[i64], proper: &[u8]) -> io::Result<()> {
+        let came = self.call(payload, ROOM)?;
+        let out = self.call(reading, ROOM)?;
+        let again = self.call(proper, ROOM)?;
+        let agrees = came.is(reading) && out.is(proper) && again.is(reading);
+        let payload = Items(payload);
+        let reading = Items(reading);
+        let proper = Items(proper);
+        self.report.row(
+            self.entry.number,
+            format_args!("{payload}  reads {reading}, goes out as {proper}"),
+            agrees,
+            format_args!("    came {came:?}\n    out  {out:?}\n    came {again:?}"),
+        )
+    }
+
+    // A payload or a reading that is not legal.
+    fn try_illegal<T: Given>(&mut self, given: &[T]) -> io::Result<()> {
+        let came = self.call(given, ROOM)?;
+        self.refused(Items(given), T::ILLEGAL, &came)
+    }
+
+    fn try_shape(&mut self, shape: &Shape) -> io::Result<()> {
+        self.try_lengths(shape.payload)?;
+        self.try_lengths(shape.reading)?;
+        self.try_short_buffer(shape.payload, shape.reading)?;
+        self.try_short_buffer(shape.reading, shape.payload)?;
+        self.try_long_buffer(shape.payload, shape.reading)?;
+        self.try_long_buffer(shape.reading, shape.payload)?;
+        let refusal = Refusal::IllegalReading;
+        let came = self.with_extremes(shape.reading, i64::MIN)?;
+        self.refused("the least field", refusal, &came)?;
+        let came = self.with_extremes(shape.reading, i64::MAX)?;
+        self.refused("the greatest field", refusal, &came)
+    }
+
+    // A payload or a reading that is empty, or an item too long.
+    fn try_lengths<T: Given>(&mut self, given: &[T]) -> io::Result<()> {
+        let refusal = Refusal::WrongLength { due: given.len() };
+        let none: &[T] = &[];
+        let came = self.call(none, ROOM)?;
+        self.refused(format_args!("no {}", T::NAME), refusal, &came)?;
+        let mut longer = given.to_vec(self.report.heap())?;
+        longer.push(T::default())?;
+        let came = self.call(&longer, ROOM)?;
+        self.refused(format_args!("{} more", T::ONE), refusal, &came)
+    }
+
+    // A buffer that is an item too short for what is due.
+    fn try_short_buffer<T: Given>(&mut self, given: &[T], due: &[T::Out]) -> io::Result<()> {
+        let needed = due.len();
+        let came = self.call(given, needed.saturating_sub(1))?;
+        let given = format_args!("into {} less", T::Out::ONE);
+        self.refused(given, Refusal::ShortBuffer { needed }, &came)
+    }
+
+    // A buffer that is longer than needed keeps its rest.
+    fn try_long_buffer<T: Given>(&mut self, given: &[T], due: &[T::Out]) -> io::Result<()> {
+        let came = self.call(given, due.len().saturating_add(1))?;
+        let answer = came.answer;
+        self.report.row(
+            self.entry.number,
+            format_args!("into {} more  keeps the rest", T::Out::ONE),
+            came.is(due),
+            format_args!("    came {answer:?}"),
+        )
+    }
+
+    // What comes of the reading with each of its fields in turn, and then all, made extreme: the first that is not refused.
+    fn with_extremes(&self, reading: &[i64], extreme: i64) -> io::Result<Came<u8>> {
+        for place in 0..reading.len() {
+            let mut fields = reading.to_vec(self.report.heap())?;
+            fields[place] = extreme;
+            let came = self.call(&fields, ROOM)?;
+            if !came.is_refused(Refusal::IllegalReading) {
+                return Ok(came);
+            }
+        }
+        let fields = vec![in self.report.heap(); extreme; reading.len()]?;
+        Ok(self.call(&fields, ROOM)?)
+    }
+}
