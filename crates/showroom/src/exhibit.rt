@@ -1,5 +1,5 @@
 // A datapoint type on show.
-use crate::shown::{Fields, Numbered, Octets};
+use crate::shown::{Fields, Octets};
 use book::number::TypeNumber;
 use datapoint::datapoint_type::DatapointType;
 use datapoint::refusal::Refusal;
@@ -28,7 +28,7 @@ impl<T: DatapointType> Exhibit<T> {
 
     // Prints what a payload reads as and how that reading goes out, or the number of the refusal.
     pub fn show(&self, rt: &HostRuntime, payload: &[u8]) -> io::Result<()> {
-        let number = Numbered(self.number);
+        let number = self.number;
         let given = Octets(payload);
         print!(rt; "   Read as {number}, {given} ")?;
         match self.exchange(payload, &mut [0; 16], &mut [0; 14]) {

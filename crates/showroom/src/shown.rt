@@ -1,5 +1,4 @@
-// How payloads, readings and type numbers are shown.
-use book::number::TypeNumber;
+// How payloads and readings are shown.
 use std::fmt;
 
 // Octets as two hexadecimal digits each.
@@ -29,17 +28,5 @@ impl<'a> fmt::Display for Fields<'a> {
             comma = ", ";
         }
         Ok(())
-    }
-}
-
-// A type number as 9.001.
-#[derive(Drop)]
-pub struct Numbered(pub TypeNumber);
-
-impl fmt::Display for Numbered {
-    fn fmt<W: fmt::Write>(&self, f: &mut fmt::Formatter<W>) -> fmt::Result {
-        let main = self.0.main;
-        let sub = self.0.sub;
-        write!(f, "{main}.{sub:03}")
     }
 }

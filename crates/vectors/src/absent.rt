@@ -84,8 +84,7 @@ pub fn try_absent<A: Book, B: Book>(first: &A, second: &B, report: &mut Report) 
         let due = Refused(Refusal::UnknownType);
         let heap = report.heap();
         report.row(
-            number,
-            format_args!("no type  refused with {due}"),
+            format_args!("{number}  no type  refused with {due}"),
             is_absent(heap, first, number)? && is_absent(heap, second, number)?,
             "    has a type",
         )?;

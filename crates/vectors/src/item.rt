@@ -1,18 +1,21 @@
-// Octets and fields: what payloads and readings are made of, and how they are shown.
+// Octets and fields, and how payloads and readings are printed.
 use std::fmt;
 
+// An octet of a payload, or a field of a reading.
 pub trait Item: Copy + Default + PartialEq + fmt::Debug {
     // What a place of a buffer holds before a call.
     const BLANK: Self;
 
-    // What an item is called, and with its article.
+    // What an item is called.
     const NAME: &'static str;
 
+    // The same with its article.
     const ONE: &'static str;
 
-    // What stands between two items.
+    // What is printed between two items.
     const GAP: &'static str;
 
+    // Prints an item.
     fn show<W: fmt::Write>(&self, f: &mut fmt::Formatter<W>) -> fmt::Result;
 }
 

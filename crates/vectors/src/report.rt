@@ -1,6 +1,4 @@
 // The rows that are printed, and their counts.
-use crate::shown::Numbered;
-use book::number::TypeNumber;
 use std::alloc::Global;
 use std::fmt::Display;
 use std::io;
@@ -33,18 +31,16 @@ impl Report {
     // Prints and counts a row, with what came in place of what was due below one that differs.
     pub fn row(
         &mut self,
-        number: TypeNumber,
         said: impl Display + Drop,
         agrees: bool,
         came: impl Display + Drop,
     ) -> io::Result<()> {
-        let number = Numbered(number);
         self.rows = self.rows.saturating_add(1);
         if agrees {
-            return println!(self.rt; "{number}  {said}  ok");
+            return println!(self.rt; "{said}  ok");
         }
         self.differing = self.differing.saturating_add(1);
-        println!(self.rt; "{number}  {said}  DIFFERS")?;
+        println!(self.rt; "{said}  DIFFERS")?;
         println!(self.rt; "{came}")
     }
 

@@ -1,19 +1,6 @@
-// How type numbers and refusals are printed.
-use book::number::TypeNumber;
+// How refusals are printed.
 use datapoint::refusal::Refusal;
 use std::fmt;
-
-// A type number as 9.001.
-#[derive(Drop)]
-pub struct Numbered(pub TypeNumber);
-
-impl fmt::Display for Numbered {
-    fn fmt<W: fmt::Write>(&self, f: &mut fmt::Formatter<W>) -> fmt::Result {
-        let main = self.0.main;
-        let sub = self.0.sub;
-        write!(f, "{main}.{sub:03}")
-    }
-}
 
 // A refusal's number, and the count that it tells.
 #[derive(Drop)]

@@ -57,6 +57,18 @@ impl<'a, B: Book> Trial<'a, B> {
         self.entry.call(self.report.heap(), given, room)
     }
 
+    // Prints a row at the type number.
+    fn row(
+        &mut self,
+        said: impl Display + Drop,
+        agrees: bool,
+        came: impl Display + Drop,
+    ) -> io::Result<()> {
+        let number = self.entry.number;
+        self.report
+            .row(format_args!("{number}  {said}"), agrees, came)
+    }
+
     // Prints a row for a call for which a refusal is due.
     fn refused<T: Item>(
         &mut self,
@@ -66,8 +78,7 @@ impl<'a, B: Book> Trial<'a, B> {
     ) -> io::Result<()> {
         let due = Refused(refusal);
         let answer = came.answer;
-        self.report.row(
-            self.entry.number,
+        self.row(
             format_args!("{given}  refused with {due}"),
             came.is_refused(refusal),
             format_args!("    came {answer:?}"),
@@ -92,8 +103,7 @@ impl<'a, B: Book> Trial<'a, B> {
         let payload = Items(payload);
         let reading = Items(reading);
         let proper = Items(proper);
-        self.report.row(
-            self.entry.number,
+        self.row(
             format_args!("{payload}  reads {reading}, goes out as {proper}"),
             agrees,
             format_args!("    came {came:?}\n    out  {out:?}\n    came {again:?}"),
@@ -144,8 +154,7 @@ impl<'a, B: Book> Trial<'a, B> {
     fn try_long_buffer<T: Given>(&mut self, given: &[T], due: &[T::Out]) -> io::Result<()> {
         let came = self.call(given, due.len().saturating_add(1))?;
         let answer = came.answer;
-        self.report.row(
-            self.entry.number,
+        self.row(
             format_args!("into {} more  keeps the rest", T::Out::ONE),
             came.is(due),
             format_args!("    came {answer:?}"),
