@@ -1,4 +1,4 @@
-// How payloads and readings are shown.
+// How payloads and readings are shown. One impl for both, over a trait of their gaps and digits, is longer than the two.
 use std::fmt;
 
 // Octets as two hexadecimal digits each.

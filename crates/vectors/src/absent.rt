@@ -1,7 +1,6 @@
 // Type numbers that no book has: those beside each range, and a few far off.
 use crate::given::{Entry, ROOM};
 use crate::report::Report;
-use crate::shown::Refused;
 use book::book::Book;
 use book::number::TypeNumber;
 use datapoint::refusal::Refusal;
@@ -77,11 +76,11 @@ fn is_absent<B: Book>(heap: Global, book: &B, number: TypeNumber) -> Result<bool
     Ok(came.is_refused(refusal) && out.is_refused(refusal))
 }
 
-// Tries that none of the numbers has a type, whichever of two books is bound first.
-pub fn try_absent<A: Book, B: Book>(first: &A, second: &B, report: &mut Report) -> io::Result<()> {
+// Runs calls that show that none of the numbers has a type, whichever of two books is bound first.
+pub fn run_absent<A: Book, B: Book>(first: &A, second: &B, report: &mut Report) -> io::Result<()> {
     for (main, sub) in ABSENT.iter().copied() {
         let number = TypeNumber { main, sub };
-        let due = Refused(Refusal::UnknownType);
+        let due = Refusal::UnknownType;
         let heap = report.heap();
         report.row(
             format_args!("{number}  no type  refused with {due}"),

@@ -11,20 +11,19 @@ pub const ROOM: usize = 17;
 
 // An octet of a payload to be read, or a field of a reading to be written.
 pub trait Given: Item {
-    // What an item of the other kind is.
+    // An item of what comes out.
     type Out: Item;
 
     // Why a book refuses items that are not legal.
     const ILLEGAL: Refusal;
 
+    // Reads or writes the items into the front of `out`.
     fn call<B: Book>(
         book: &B,
         number: TypeNumber,
         given: &[Self],
         out: &mut [Self::Out],
-    ) -> Result<usize, Refusal>
-    where
-        Self: Sized;
+    ) -> Result<usize, Refusal>;
 }
 
 impl Given for u8 {

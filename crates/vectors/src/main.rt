@@ -11,14 +11,13 @@ mod numbers;
 mod octets;
 mod report;
 mod shapes;
-mod shown;
 mod texts;
 mod times;
 mod trial;
 mod vector;
 mod voids;
 
-use crate::absent::try_absent;
+use crate::absent::run_absent;
 use crate::heating::HEATING;
 use crate::moments::MOMENTS;
 use crate::numbers::NUMBERS;
@@ -27,7 +26,7 @@ use crate::report::Report;
 use crate::shapes::SHAPES;
 use crate::texts::TEXTS;
 use crate::times::TIMES;
-use crate::trial::{try_pages, try_shapes};
+use crate::trial::{run_pages, run_shapes};
 use crate::voids::VOIDS;
 use book::bound::Bound;
 use books::general::GeneralBook;
@@ -39,18 +38,18 @@ fn main(rt: HostRuntime) -> io::Result<()> {
     let mut report = Report::new(rt);
     let house = house_books();
     for pages in [OCTETS, NUMBERS, TIMES, MOMENTS, VOIDS, TEXTS, HEATING] {
-        try_pages(&house, pages, &mut report)?;
+        run_pages(&house, pages, &mut report)?;
     }
-    try_shapes(&house, SHAPES, &mut report)?;
+    run_shapes(&house, SHAPES, &mut report)?;
     report.heading("The heating book bound before the general book:")?;
     let other = Bound {
         first: HeatingBook,
         second: GeneralBook,
     };
     for pages in [NUMBERS, HEATING] {
-        try_pages(&other, pages, &mut report)?;
+        run_pages(&other, pages, &mut report)?;
     }
     report.heading("Numbers of no type, in either order:")?;
-    try_absent(&house, &other, &mut report)?;
+    run_absent(&house, &other, &mut report)?;
     report.end()
 }

@@ -3,7 +3,6 @@ use crate::came::Came;
 use crate::given::{Entry, Given, ROOM};
 use crate::item::{Item, Items};
 use crate::report::Report;
-use crate::shown::Refused;
 use crate::vector::{Page, Shape, Vector};
 use book::book::Book;
 use book::number::TypeNumber;
@@ -12,28 +11,28 @@ use std::alloc::AllocError;
 use std::fmt::Display;
 use std::io;
 
-// Tries each vector of the pages at each type number that its page is for.
-pub fn try_pages<B: Book>(book: &B, pages: &[Page], report: &mut Report) -> io::Result<()> {
+// Runs each vector of the pages at each type number that its page is for.
+pub fn run_pages<B: Book>(book: &B, pages: &[Page], report: &mut Report) -> io::Result<()> {
     for page in pages {
         for sub in page.first..=page.last {
             let main = page.main;
             let mut trial = Trial::new(book, TypeNumber { main, sub }, report);
             for vector in page.vectors {
-                trial.try_vector(vector)?;
+                trial.run_vector(vector)?;
             }
         }
     }
     Ok(())
 }
 
-// Tries calls of other lengths, and with extreme fields, at the type number of each shape.
-pub fn try_shapes<B: Book>(book: &B, shapes: &[Shape], report: &mut Report) -> io::Result<()> {
+// Runs calls of other lengths, and with extreme fields, at the type number of each shape.
+pub fn run_shapes<B: Book>(book: &B, shapes: &[Shape], report: &mut Report) -> io::Result<()> {
     for shape in shapes {
         let number = TypeNumber {
             main: shape.main,
             sub: shape.sub,
         };
-        Trial::new(book, number, report).try_shape(shape)?;
+        Trial::new(book, number, report).run_shape(shape)?;
     }
     Ok(())
 }
@@ -76,53 +75,54 @@ impl<'a, B: Book> Trial<'a, B> {
         refusal: Refusal,
         came: &Came<T>,
     ) -> io::Result<()> {
-        let due = Refused(refusal);
         let answer = came.answer;
         self.row(
-            format_args!("{given}  refused with {due}"),
+            format_args!("{given}  refused with {refusal}"),
             came.is_refused(refusal),
             format_args!("    came {answer:?}"),
         )
     }
 
-    fn try_vector(&mut self, vector: &Vector) -> io::Result<()> {
+    fn run_vector(&mut self, vector: &Vector) -> io::Result<()> {
         match *vector {
-            Vector::Proper(payload, reading) => self.try_reading(payload, reading, payload),
-            Vector::Loose(payload, reading, proper) => self.try_reading(payload, reading, proper),
-            Vector::Illegal(payload) => self.try_illegal(payload),
-            Vector::Unwritable(reading) => self.try_illegal(reading),
+            Vector::Proper(payload, reading) => self.run_reading(payload, reading, payload),
+            Vector::Loose(payload, reading, proper) => self.run_reading(payload, reading, proper),
+            Vector::Illegal(payload) => self.run_illegal(payload),
+            Vector::Unwritable(reading) => self.run_illegal(reading),
         }
     }
 
     // A payload reads so, and the reading goes out as the proper payload, which reads the same.
-    fn try_reading(&mut self, payload: &[u8], reading: &[i64], proper: &[u8]) -> io::Result<()> {
+    fn run_reading(&mut self, payload: &[u8], reading: &[i64], proper: &[u8]) -> io::Result<()> {
         let came = self.call(payload, ROOM)?;
         let out = self.call(reading, ROOM)?;
         let again = self.call(proper, ROOM)?;
         let agrees = came.is(reading) && out.is(proper) && again.is(reading);
-        let payload = Items(payload);
-        let reading = Items(reading);
-        let proper = Items(proper);
         self.row(
-            format_args!("{payload}  reads {reading}, goes out as {proper}"),
+            format_args!(
+                "{}  reads {}, goes out as {}",
+                Items(payload),
+                Items(reading),
+                Items(proper)
+            ),
             agrees,
             format_args!("    came {came:?}\n    out  {out:?}\n    came {again:?}"),
         )
     }
 
     // A payload or a reading that is not legal.
-    fn try_illegal<T: Given>(&mut self, given: &[T]) -> io::Result<()> {
+    fn run_illegal<T: Given>(&mut self, given: &[T]) -> io::Result<()> {
         let came = self.call(given, ROOM)?;
         self.refused(Items(given), T::ILLEGAL, &came)
     }
 
-    fn try_shape(&mut self, shape: &Shape) -> io::Result<()> {
-        self.try_lengths(shape.payload)?;
-        self.try_lengths(shape.reading)?;
-        self.try_short_buffer(shape.payload, shape.reading)?;
-        self.try_short_buffer(shape.reading, shape.payload)?;
-        self.try_long_buffer(shape.payload, shape.reading)?;
-        self.try_long_buffer(shape.reading, shape.payload)?;
+    fn run_shape(&mut self, shape: &Shape) -> io::Result<()> {
+        self.run_lengths(shape.payload)?;
+        self.run_lengths(shape.reading)?;
+        self.run_short_buffer(shape.payload, shape.reading)?;
+        self.run_short_buffer(shape.reading, shape.payload)?;
+        self.run_long_buffer(shape.payload, shape.reading)?;
+        self.run_long_buffer(shape.reading, shape.payload)?;
         let refusal = Refusal::IllegalReading;
         let came = self.with_extremes(shape.reading, i64::MIN)?;
         self.refused("the least field", refusal, &came)?;
@@ -131,10 +131,9 @@ impl<'a, B: Book> Trial<'a, B> {
     }
 
     // A payload or a reading that is empty, or an item too long.
-    fn try_lengths<T: Given>(&mut self, given: &[T]) -> io::Result<()> {
+    fn run_lengths<T: Given>(&mut self, given: &[T]) -> io::Result<()> {
         let refusal = Refusal::WrongLength { due: given.len() };
-        let none: &[T] = &[];
-        let came = self.call(none, ROOM)?;
+        let came = self.call::<T>(&[], ROOM)?;
         self.refused(format_args!("no {}", T::NAME), refusal, &came)?;
         let mut longer = given.to_vec(self.report.heap())?;
         longer.push(T::default())?;
@@ -143,7 +142,7 @@ impl<'a, B: Book> Trial<'a, B> {
     }
 
     // A buffer that is an item too short for what is due.
-    fn try_short_buffer<T: Given>(&mut self, given: &[T], due: &[T::Out]) -> io::Result<()> {
+    fn run_short_buffer<T: Given>(&mut self, given: &[T], due: &[T::Out]) -> io::Result<()> {
         let needed = due.len();
         let came = self.call(given, needed.saturating_sub(1))?;
         let given = format_args!("into {} less", T::Out::ONE);
@@ -151,7 +150,7 @@ impl<'a, B: Book> Trial<'a, B> {
     }
 
     // A buffer that is longer than needed keeps its rest.
-    fn try_long_buffer<T: Given>(&mut self, given: &[T], due: &[T::Out]) -> io::Result<()> {
+    fn run_long_buffer<T: Given>(&mut self, given: &[T], due: &[T::Out]) -> io::Result<()> {
         let came = self.call(given, due.len().saturating_add(1))?;
         let answer = came.answer;
         self.row(
