@@ -2,7 +2,6 @@
 #![tactic(auto)]
 
 use arrayvec::ArrayVec;
-use book::book::Book;
 use books::house::house_books;
 use house::{LONGEST, report};
 use std::io;
