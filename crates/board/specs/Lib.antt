@@ -1,2 +1,4 @@
+pub mod Board
 pub mod Table
 pub mod Faults
+pub mod Load

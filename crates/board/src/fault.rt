@@ -1,6 +1,10 @@
 // Why a text does not load.
 ghost use Rattle.std.specs.Prelude.{◌≡◌};
-ghost use Rattle.board.specs.Faults.{cause_number};
+ghost use Rattle.board.specs.declared.fault.Cause.TheVariants.{WrongLength};
+ghost use Rattle.board.specs.Faults.{cause_number, cause_of};
+
+use datapoint::refusal::Refusal;
+use listing::line::TooMany;
 
 // What is wrong with a line.
 #[derive(Clone, Copy, PartialEq, Eq, Debug)]
@@ -32,6 +36,29 @@ impl Cause {
             Cause::IllegalReading => 10,
             Cause::BrokenLine => 12,
         }
+    }
+}
+
+// A line is faulty for what its point, its type or a reading of it is refused.
+impl From<Refusal> for Cause {
+    ghost from_gives = { λ refusal cause. cause ≡ cause_of refusal };
+
+    fn from(refusal: Refusal) -> Cause {
+        match refusal {
+            Refusal::NoSuchPoint => Cause::NoSuchPoint,
+            Refusal::WrongLength { .. } => Cause::WrongLength,
+            Refusal::IllegalReading => Cause::IllegalReading,
+            _ => Cause::UnknownType,
+        }
+    }
+}
+
+// No type has so many fields.
+impl From<TooMany> for Cause {
+    ghost from_gives = { λ _ cause. cause ≡ WrongLength };
+
+    fn from(_too_many: TooMany) -> Cause {
+        Cause::WrongLength
     }
 }
 

@@ -5,3 +5,4 @@ pub mod board;
 pub mod fault;
 mod lines;
 mod load;
+mod table;

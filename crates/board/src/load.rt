@@ -1,96 +1,94 @@
-// The board that a text says.
-ghost use Rattle.std.specs.Prelude.{◌≡◌};
+// The table that a text says.
+ghost use Rattle.std.specs.Prelude.{◌≡◌, ◌<◌, ◌≤◌, length, IfOk};
 ghost use Rattle.listing.specs.Fields.{fields_in};
 ghost use Rattle.listing.specs.Line.{held_of, line_said};
+ghost use Rattle.listing.specs.Read.{read_row};
 ghost use Rattle.model.specs.Load.{loaded};
 ghost use Rattle.points.specs.Model.{placed_point};
-ghost use Rattle.board.specs.Faults.{load_answer, cause_answer, cause_of, number_only, accepted_held, held_by, table_of};
+ghost use Rattle.board.specs.Faults.{load_answer, cause_answer};
+ghost use Rattle.board.specs.Load.{accepted_held, number_only, typed_held, front_of, front_said};
+ghost use Rattle.board.specs.Table.{points_of};
 
 use crate::fault::{Cause, Fault};
+use crate::table::{Table, index, unplaced};
 use book::book::Book;
 use book::number::TypeNumber;
-use datapoint::refusal::Refusal;
-use listing::line::{Line, Value};
+use listing::line::{Line, TooMany, Value};
 use listing::read::read_line;
 use listing::reading::Reading;
 use points::placed::Placed;
-use points::point::Point;
 use points::take::accept;
-
-// Why a reading of a line is not accepted.
-fn cause_of(refusal: Refusal) -> Cause
-    ensures { result ≡ cause_of refusal }
-{
-    match refusal {
-        Refusal::WrongLength { .. } => Cause::WrongLength,
-        Refusal::IllegalReading => Cause::IllegalReading,
-        _ => Cause::UnknownType,
-    }
-}
 
 // A reading of a line, where the type accepts it.
 fn accept_value<B: Book>(
     book: &B,
     number: TypeNumber,
-    value: &Value,
+    value: Value,
 ) -> Result<Option<Reading>, Cause>
-    ensures { cause_answer fields_in result ≡ number_only (accepted_held (B.Book.types book.now number) (held_of value.now)) }
+    ensures { cause_answer fields_in result ≡ number_only (accepted_held (B.Book.types book.now number) (held_of value)) }
 {
-    let reading = match value {
-        Value::Missing => return Ok(None),
-        Value::TooMany => return Err(Cause::WrongLength),
-        Value::Fields(reading) => reading,
+    let Some(reading) = value else {
+        return Ok(None);
     };
-    match accept(book, number, reading.fields()) {
-        Ok(reading) => Ok(Some(reading)),
-        Err(refusal) => Err(cause_of(refusal)),
-    }
+    Ok(Some(accept(book, number, &reading?)?))
 }
 
-// The point that a line says, behind a line for the point `last`.
-fn place_line<B: Book>(book: &B, last: u16, line: &Line) -> Result<Placed, Cause>
-    ensures { cause_answer placed_point result ≡ held_by (B.Book.types book.now) last (line_said line.now) }
+// What a line places.
+fn place_line<B: Book>(book: &B, line: Line<Result<Reading, TooMany>>) -> Result<Placed, Cause>
+    ensures { let said = line_said line in cause_answer placed_point result ≡ typed_held (B.Book.types book.now said.number) said }
 {
-    if line.point < 1 || line.point > 48 {
-        return Err(Cause::NoSuchPoint);
-    }
-    if line.point <= last {
-        return Err(Cause::NotAbove);
-    }
-    if book.counts(line.number).is_err() {
-        return Err(Cause::UnknownType);
-    }
-    let normal = accept_value(book, line.number, &line.normal)?;
-    let forced = accept_value(book, line.number, &line.forced)?;
-    Ok(Placed {
-        number: line.number,
+    let Line {
+        number,
         normal,
         forced,
+        ..
+    } = line;
+    book.counts(number)?;
+    Ok(Placed {
+        number,
+        normal: accept_value(book, number, normal)?,
+        forced: accept_value(book, number, forced)?,
     })
 }
 
-// The points that a text says, or its first faulty line.
-pub fn table<B: Book>(book: &B, text: &[u8]) -> Result<[Point; 48], Fault>
-    ensures { load_answer table_of result ≡ loaded (B.Book.types book.now) text.now }
+// The point that the line at the front of a text names, what it places there, and the rest of the text.
+// The line stands behind one for the point `last`.
+fn read_point<'a, B: Book>(
+    book: &B,
+    last: u16,
+    text: &'a [u8],
+) -> Result<(u16, Placed, &'a [u8]), Cause>
+    ensures said { cause_answer front_of result ≡ front_said (B.Book.types book.now) last (read_row text.now) }
+    ensures onward { IfOk result (λ f. length f.2.now < length text.now) }
+    ensures inside { IfOk result (λ f. (1 ≤ f.0) × (f.0 ≤ 48)) }
 {
-    let mut points = [Point::Unplaced; 48];
-    let mut at = 0;
-    let mut line = 1;
+    let (line, rest) = read_line(text).ok_or(Cause::BrokenLine)?;
+    let point = line.point;
+    index(usize::from(point))?;
+    if point <= last {
+        return Err(Cause::NotAbove);
+    }
+    Ok((point, place_line(book, line)?, rest))
+}
+
+// The table that a text says, or its first faulty line.
+pub fn read_table<B: Book>(book: &B, text: &[u8]) -> Result<Table, Fault>
+    ensures { load_answer points_of result ≡ loaded (B.Book.types book.now) text.now }
+{
+    let mut points = unplaced();
+    let mut rest = text;
     let mut last = 0;
-    while at < text.len() {
-        let Some((said, next)) = read_line(text, at) else {
-            return Err(Fault {
-                line,
-                cause: Cause::BrokenLine,
-            });
-        };
-        match place_line(book, last, &said) {
-            Ok(placed) => points[said.point as usize - 1] = Point::Placed(placed),
-            Err(cause) => return Err(Fault { line, cause }),
-        }
-        at = next;
+    let mut line = 1;
+    // An iterator over the lines is no plainer: it would keep the rest of the text as this loop does, and end with it.
+    while !rest.is_empty() {
+        let (point, placed, next) = read_point(book, last, rest).map_err(|cause| Fault {
+            line,
+            cause,
+        })?;
+        points[usize::from(point) - 1] = Some(placed);
+        last = point;
+        rest = next;
         line += 1;
-        last = said.point;
     }
     Ok(points)
 }

@@ -1,5 +1,5 @@
 -- What it means that a reader reads just what is shown. Assumes nothing.
-use Rattle.std.proofs.Common.{◌≡◌, ℕ, Bool, true, false, cond, eqb, List, [], ◌∷◌, ◌++◌, refl, ap, ◌∙◌, arith}
+use Rattle.std.proofs.Common.{◌≡◌, ℕ, Bool, true, false, cond, eqb, List, [], ◌∷◌, ◌++◌, refl, ap, ◌∙◌}
 use Rattle.std.specs.Char.{is_ascii_digit}
 use Rattle.std.proofs.lemmas.Bool.{eqb-true, eq-eqb, cond-true}
 use Rattle.listing.specs.Read.{Got, got, bad, ◌⨟◌, read_literal}
@@ -14,6 +14,13 @@ pub record Reads {A : Type 0} (read : List ℕ → Got A) (show : A → List ℕ
   pub back : (a : A) (rest : List ℕ) → Good a → Stop rest → read (show a ++ rest) ≡ got a rest
   pub only : (s : List ℕ) (a : A) (rest : List ℕ) → read s ≡ got a rest → (s ≡ show a ++ rest) × Good a
 
+-- what was read ends in this value and this rest
+pub ended : {A : Type 0} (show : A → List ℕ) (Good : A → Type 0) {s : List ℕ} {a b : A} {t rest : List ℕ} → got a t ≡ got b rest → (s ≡ show a ++ t) × Good a → (s ≡ show b ++ rest) × Good b
+ended {A} show Good {s} {a} {b} {t} {rest} e h =
+    let same : a ≡ b = cc in
+    let end : t ≡ rest = cc in
+    rw (← same, ← end) h
+
 module _ {A B : Type 0} {read : List ℕ → Got A} {show : A → List ℕ} {Good : A → Type 0} {Stop : List ℕ → Type 0} where
   -- one step of a longer reader, there and back
   pub step : Reads read show Good Stop → (next : A → List ℕ → Got B) (a : A) (rest : List ℕ) → Good a → Stop rest → (read (show a ++ rest) ⨟ next) ≡ next a rest
@@ -25,7 +32,7 @@ module _ {A B : Type 0} {read : List ℕ → Got A} {show : A → List ℕ} {Goo
     where
       by : (g : Got A) → read s ≡ g → (g ⨟ next) ≡ got b end → ((a : A) (rest : List ℕ) → s ≡ show a ++ rest → Good a → next a rest ≡ got b end → G) → G
       by (got a rest) e f so = so a rest (law.only s a rest e).0 (law.only s a rest e).1 f
-      by bad e f so = let z : ◌≡◌ {A = ℕ} 0 1 = cc in absurd (omega arith)
+      by bad e f so = cc
 
 literal_back : (key rest : List ℕ) → read_literal key (key ++ rest) ≡ got tt rest
 literal_back [] rest = refl
@@ -33,12 +40,12 @@ literal_back (k ∷ key) rest = cond-true (eqb k k) (read_literal key (key ++ re
 
 literal_only : (key s : List ℕ) (rest : List ℕ) → read_literal key s ≡ got tt rest → s ≡ key ++ rest
 literal_only [] s rest e = cc
-literal_only (k ∷ key) [] rest e = let z : ◌≡◌ {A = ℕ} 0 1 = cc in absurd (omega arith)
+literal_only (k ∷ key) [] rest e = cc
 literal_only (k ∷ key) (c ∷ s) rest e = by (eqb c k) refl (literal_only key s rest) e
   where
     by : (t : Bool) → eqb c k ≡ t → (read_literal key s ≡ got tt rest → s ≡ key ++ rest) → cond t (read_literal key s) bad ≡ got tt rest → ◌≡◌ {A = List ℕ} (c ∷ s) (k ∷ (key ++ rest))
     by true same ih e = let a = eqb-true c k same in let b = ih e in cc
-    by false other ih e = let z : ◌≡◌ {A = ℕ} 0 1 = cc in absurd (omega arith)
+    by false other ih e = cc
 
 pub literal : (key : List ℕ) → Reads (read_literal key) (λ _. key) (λ _. Unit {0}) (λ _. Unit {0})
 literal key = record { back = λ a rest g s. literal_back key rest; only = λ s a rest e. (literal_only key s rest e, tt) }

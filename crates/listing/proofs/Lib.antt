@@ -4,8 +4,8 @@ pub mod Field
 pub mod Sub
 pub mod Readings
 pub mod Rows
-pub mod Kept
 pub mod Listed
 pub mod Lines
 pub mod Written
 pub mod Tails
+pub mod Room

@@ -1,22 +1,12 @@
 -- What the code found, as a row. Assumes nothing.
-use Rattle.std.proofs.Common.{◌≡◌, ℕ, ◌<◌, List, drop, ℤ, IfSome, Some, None, codes, Option, refl, ap, ◌∙◌, arith, length-drop}
+use Rattle.std.proofs.Common.{◌≡◌, ℕ, ◌<◌, List, length, ℤ, IfSome, Some, None, codes, Option, Bor, refl, ap, ◌∙◌}
 use Rattle.listing.specs.declared.line.Line.{Line}
-use Rattle.listing.specs.Found.{found_as}
-use Rattle.listing.specs.Line.{Held, held, line_said, row_said, got_as, read_held, read_said}
+use Rattle.listing.specs.Fields.{kept}
+use Rattle.listing.specs.Found.{found}
+use Rattle.listing.specs.Line.{Held, Kept, held, held_fields, line_said, row_said, got_as, read_held, read_said}
+use Rattle.listing.specs.Row.{Row}
 use Rattle.listing.specs.Read.{Got, got, bad, ◌⨟◌, read_literal, read_reading, read_placed, read_readings, read_row}
 use Rattle.listing.proofs.Rows.{row_shorter}
-
-module _ {A B : Type 0} (f : A → B) where
-  -- a value in another form comes from a value
-  pub as_got : (g : Got A) (b : B) (t : List ℕ) → got b t ≡ got_as f g → (a : A) × (g ≡ got a t) × (b ≡ f a)
-  as_got (got a u) b t e =
-      let end : u ≡ t = cc in
-      (a, ap (got a) end, cc)
-  as_got bad b t e = let z : ◌≡◌ {A = ℕ} 0 1 = cc in absurd (omega arith)
-
-  pub as_bad : (g : Got A) → bad ≡ got_as f g → g ≡ bad
-  as_bad (got a t) e = let z : ◌≡◌ {A = ℕ} 0 1 = cc in absurd (omega arith)
-  as_bad bad e = refl
 
 -- reading on with a value, or with its other form, comes to the same
 module _ {A B D : Type 0} (h : B → D) where
@@ -27,6 +17,11 @@ module _ {A B D : Type 0} (h : B → D) where
   along : {C : Type 0} (f : A → C) (g : Got A) (next : A → List ℕ → Got B) (other : C → List ℕ → Got D) → ((a : A) (t : List ℕ) → other (f a) t ≡ got_as h (next a t)) → (got_as f g ⨟ other) ≡ got_as h (g ⨟ next)
   along f (got a t) next other same = same a t
   along f bad next other same = refl
+
+-- a reading that is not `none`
+pub held_these : (g : Got (List ℤ)) → got_as held (g ⨟ λ xs rest. got (Some xs) rest) ≡ got_as held_fields (got_as kept g)
+held_these (got xs rest) = refl
+held_these bad = refl
 
 abbrev both : Option (List ℤ) × Option (List ℤ) → Held × Held
 both o = (held o.0, held o.1)
@@ -47,9 +42,13 @@ said_row s =
     ap (λ g. g ⨟ λ v t. got (record { point = p.0; number = p.1; normal = v.0; forced = v.1 }) t) (readings_as t)
     ∙ along row_said both (read_readings read_reading t) _ _ λ v t. refl
 
--- the next line begins further on
-pub onward : (text : List ℕ) (at : ℕ) (r : Option (Line × ℕ)) → found_as line_said text r ≡ got_as row_said (read_row (drop at text)) → IfSome r (λ p. at < p.1)
-onward text at None e = tt
-onward text at (Some p) e =
-    let row = as_got row_said (read_row (drop at text)) (line_said p.0) (drop p.1 text) e in
-    omega (arith, row_shorter (drop at text) row.0 (drop p.1 text) row.1, length-drop at text, length-drop p.1 text)
+-- the rest is shorter than the text
+pub onward : (text : List ℕ) (r : Option (Line Kept × Bor (List ℕ))) → got_as line_said (found r) ≡ got_as row_said (read_row text) → IfSome r (λ p. length p.1.now < length text)
+onward text r e = by r (read_row text) refl e
+  where
+    by : (r : Option (Line Kept × Bor (List ℕ))) (g : Got Row) → read_row text ≡ g → got_as line_said (found r) ≡ got_as row_said g → IfSome r (λ p. length p.1.now < length text)
+    by None g f e = tt
+    by (Some p) (got row rest) f e =
+        let end : rest ≡ p.1.now = cc in
+        rw (← end) (row_shorter text row rest f)
+    by (Some p) bad f e = cc

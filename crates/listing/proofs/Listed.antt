@@ -7,11 +7,7 @@ use Rattle.listing.specs.Line.{got_as}
 use Rattle.listing.specs.Read.{Got, got, bad, ◌⨟◌, if_came, read_literal, read_field, read_fields_by, read_fields}
 use Rattle.listing.proofs.Law.{literal}
 use Rattle.listing.proofs.Field.{field}
-use Rattle.listing.proofs.Readings.{field_some}
-
--- what follows a field, with p for the fields behind a comma
-abbrev listed : (List ℕ → Got (List ℤ)) → ℤ → List ℕ → Got (List ℤ)
-listed p x rest = if_came (read_literal (codes ",") rest) (λ more. p more ⨟ λ xs end. got (x ∷ xs) end) (got (x ∷ []) rest)
+use Rattle.listing.proofs.Readings.{listed, field_some}
 
 field_shorter : (s : List ℕ) (x : ℤ) (rest : List ℕ) → read_field s ≡ got x rest → length rest < length s
 field_shorter s x rest e =
@@ -46,7 +42,7 @@ turns (suc j) zero [] a b = refl
 turns (suc j) zero (c ∷ s) a b = absurd (omega arith)
 turns (suc j) (suc k) s a b = agree s (read_fields_by j) (read_fields_by k) (λ t l. turns j k t (omega arith) (omega arith))
 
-pub fields_step : (s : List ℕ) → read_fields s ≡ (read_field s ⨟ listed read_fields)
+fields_step : (s : List ℕ) → read_fields s ≡ (read_field s ⨟ listed read_fields)
 fields_step [] = refl
 fields_step (c ∷ s) = agree (c ∷ s) (read_fields_by (length s)) read_fields (λ t l. turns (length s) (length t) t (omega arith) (omega arith))
 
@@ -69,12 +65,8 @@ over : (k : Option (List ℤ)) (x : ℤ) (g : Got (List ℤ)) → got_as (furthe
 over k x (got xs end) = ap (λ o. got o end) (further_more k x xs)
 over k x bad = refl
 
-last_one : (k : Option (List ℤ)) (x : ℤ) → lengthened k x ≡ further k (x ∷ [])
-last_one None x = refl
-last_one (Some ys) x = refl
-
-module _ (k : Option (List ℤ)) (s : List ℕ) (x : ℤ) (rest : List ℕ) (e : got x rest ≡ read_field s) where
-  pub fields_again : (u : Unit {0}) (more : List ℕ) → got u more ≡ read_literal (codes ",") rest → got_as (further (lengthened k x)) (read_fields more) ≡ got_as (further k) (read_fields s)
-  fields_again u more f =
-      over k x (read_fields more)
-      ∙ sym (ap (got_as (further k)) (fields_step s ∙ ap (λ g. g ⨟ listed read_fields) (sym e) ∙ ap (λ c. if_came c (λ more. read_fields more ⨟ λ xs end. got (x ∷ xs) end) (got (x ∷ []) rest)) (sym f)))
+-- a field and a comma leave the fields behind it to be read
+pub fields_again : (k : Option (List ℤ)) (s : List ℕ) (x : ℤ) (rest : List ℕ) → got x rest ≡ read_field s → (u : Unit {0}) (more : List ℕ) → got u more ≡ read_literal (codes ",") rest →
+    got_as (further (lengthened k x)) (read_fields more) ≡ got_as (further k) (read_fields s)
+fields_again k s x rest e u more f =
+    over k x (read_fields more) ∙ sym (ap (got_as (further k)) (fields_step s ∙ rw (← e, ← f) refl))

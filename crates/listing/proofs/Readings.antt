@@ -1,18 +1,17 @@
 -- A reading is read just where it is shown. Assumes nothing.
-use Rattle.std.proofs.Common.{◌≡◌, ℕ, zero, suc, ◌^◌, ◌<◌, ◌≤◌, true, false, eqb, leb, List, [], ◌∷◌, ◌++◌, length, ℤ, pos, negsuc, Some, None, codes, decimal, Option, refl, ap, ◌∙◌, append_assoc, arith, length-append}
+use Rattle.std.proofs.Common.{◌≡◌, ℕ, zero, suc, ◌<◌, ◌≤◌, false, eqb, List, [], ◌∷◌, ◌++◌, length, ℤ, pos, negsuc, Some, None, codes, Option, refl, ap, ◌∙◌, append_assoc, arith, length-append}
 use Rattle.std.specs.Char.{is_ascii_digit}
 use Rattle.std.specs.List.{AllByRecursion}
-use Rattle.std.specs.Str.{all_ascii_digits}
 use Rattle.std.specs.Fmt.{signed_decimal}
 use Rattle.std.proofs.lemmas.Int.{ints}
-use Rattle.std.proofs.lemmas.Bool.{leb-true, ne_eqb, cond-false, and_parts}
-use Rattle.std.proofs.lemmas.Fmt.{digits_decimal, decimal_nonempty}
+use Rattle.std.proofs.lemmas.Bool.{cond-false}
+use Rattle.std.proofs.lemmas.Fmt.{decimal_nonempty}
 use Rattle.datapoint.specs.Meaning.{InRange}
 use Rattle.listing.specs.Row.{Writable}
 use Rattle.listing.specs.Show.{show_fields, show_reading}
 use Rattle.listing.specs.Read.{Got, got, bad, ◌⨟◌, if_came, read_literal, read_fields_by, read_fields, read_reading}
-use Rattle.listing.proofs.Law.{Reads, NoDigit, step, taken, literal}
-use Rattle.listing.proofs.Whole.{own}
+use Rattle.listing.proofs.Law.{Reads, NoDigit, ended, step, taken, literal}
+use Rattle.listing.proofs.Whole.{no_number}
 use Rattle.listing.proofs.Field.{field}
 
 -- the text goes on with neither a digit nor a comma
@@ -28,9 +27,9 @@ no_comma : (s : List ℕ) → Ends s → read_literal (codes ",") s ≡ bad
 no_comma [] h = refl
 no_comma (c ∷ s) h = cond-false (eqb c 44) (got tt s) bad h.1
 
--- what follows a field
-abbrev pub go_on : ℕ → ℤ → List ℕ → Got (List ℤ)
-go_on turns x rest = if_came (read_literal (codes ",") rest) (λ more. read_fields_by turns more ⨟ λ xs end. got (x ∷ xs) end) (got (x ∷ []) rest)
+-- what follows a field, with p for the fields behind a comma
+abbrev pub listed : (List ℕ → Got (List ℤ)) → ℤ → List ℕ → Got (List ℤ)
+listed p x rest = if_came (read_literal (codes ",") rest) (λ more. p more ⨟ λ xs end. got (x ∷ xs) end) (got (x ∷ []) rest)
 
 abbrev pub Fields : List ℤ → Type 0
 Fields xs = (1 ≤ length xs) × AllByRecursion InRange xs
@@ -40,31 +39,28 @@ fields_back zero [] rest few good ends = absurd (omega (arith, good.0))
 fields_back zero (x ∷ xs) rest few good ends = absurd (omega arith)
 fields_back (suc turns) [] rest few good ends = absurd (omega (arith, good.0))
 fields_back (suc turns) (x ∷ []) rest few good ends =
-    step field (go_on turns) x rest good.1.0 (no_digit rest ends)
-    ∙ ap (λ g. if_came g (λ more. read_fields_by turns more ⨟ λ xs end. got (x ∷ xs) end) (got (x ∷ []) rest)) (no_comma rest ends)
+    step field (listed (read_fields_by turns)) x rest good.1.0 (no_digit rest ends) ∙ rw (no_comma rest ends) refl
 fields_back (suc turns) (x ∷ (y ∷ xs)) rest few good ends =
     let tail : List ℕ = show_fields (y ∷ xs) ++ rest in
     ap (read_fields_by (suc turns)) (append_assoc (signed_decimal x) (codes "," ++ show_fields (y ∷ xs)) rest)
-    ∙ step field (go_on turns) x (44 ∷ tail) good.1.0 refl
+    ∙ step field (listed (read_fields_by turns)) x (44 ∷ tail) good.1.0 refl
     ∙ ap (λ g. g ⨟ λ xs end. got (x ∷ xs) end) (fields_back turns (y ∷ xs) rest (omega arith) (omega arith, good.1.1) ends)
 
 fields_only : (turns : ℕ) (s : List ℕ) (xs : List ℤ) (rest : List ℕ) → read_fields_by turns s ≡ got xs rest → (s ≡ show_fields xs ++ rest) × Fields xs
-fields_only zero s xs rest e = let z : ◌≡◌ {A = ℕ} 0 1 = cc in absurd (omega arith)
+fields_only zero s xs rest e = cc
 fields_only (suc turns) s xs rest e =
-    taken field (go_on turns) s xs rest e λ x t text good e.
+    taken field (listed (read_fields_by turns)) s xs rest e λ x t text good e.
     after (fields_only turns) x t text good (read_literal (codes ",") t) refl e
   where
-    last : (x : ℤ) (ys : List ℤ) (t more end : List ℕ) → s ≡ signed_decimal x ++ t → InRange x → t ≡ codes "," ++ more → more ≡ show_fields ys ++ end → Fields ys → (x ∷ ys) ≡ xs → end ≡ rest → (s ≡ show_fields xs ++ rest) × Fields xs
-    last x [] t more end text good comma shown fields e f = absurd (omega (arith, fields.0))
-    last x (y ∷ ys) t more end text good comma shown fields e f =
-        rw (← e, ← f) (rw append_assoc cc, (omega arith, (good, fields.1)))
+    longer : (x : ℤ) (ys : List ℤ) (t more end : List ℕ) → s ≡ signed_decimal x ++ t → InRange x → t ≡ codes "," ++ more → (more ≡ show_fields ys ++ end) × Fields ys → (s ≡ show_fields (x ∷ ys) ++ end) × Fields (x ∷ ys)
+    longer x [] t more end text good comma h = absurd (omega (arith, h.1.0))
+    longer x (y ∷ ys) t more end text good comma h = (rw append_assoc cc, (omega arith, (good, h.1.1)))
 
     further : (x : ℤ) (t more : List ℕ) → s ≡ signed_decimal x ++ t → InRange x → t ≡ codes "," ++ more → ((xs : List ℤ) (rest : List ℕ) → read_fields_by turns more ≡ got xs rest → (more ≡ show_fields xs ++ rest) × Fields xs) →
         (g : Got (List ℤ)) → read_fields_by turns more ≡ g → (g ⨟ λ xs end. got (x ∷ xs) end) ≡ got xs rest → (s ≡ show_fields xs ++ rest) × Fields xs
     further x t more text good comma ih (got ys end) g e =
-        let r = ih ys end g in
-        last x ys t more end text good comma r.0 r.1 (cc) (cc)
-    further x t more text good comma ih bad g e = let z : ◌≡◌ {A = ℕ} 0 1 = cc in absurd (omega arith)
+        ended show_fields Fields e (longer x ys t more end text good comma (ih ys end g))
+    further x t more text good comma ih bad g e = cc
 
     after : ((s : List ℕ) (xs : List ℤ) (rest : List ℕ) → read_fields_by turns s ≡ got xs rest → (s ≡ show_fields xs ++ rest) × Fields xs) →
         (x : ℤ) (t : List ℕ) → s ≡ signed_decimal x ++ t → InRange x → (c : Got (Unit {0})) → read_literal (codes ",") t ≡ c →
@@ -72,21 +68,10 @@ fields_only (suc turns) s xs rest e =
     after ih x t text good (got u more) c e =
         further x t more text good ((literal (codes ",")).only t u more c).0 (ih more) (read_fields_by turns more) refl e
     after ih x t text good bad c e =
-        let xs_is : (x ∷ []) ≡ xs = cc in
-        let end : t ≡ rest = cc in
-        rw (← xs_is, ← end) (text, (omega arith, (good, tt)))
-
--- digits begin with no `n`
-no_none : (ds rest : List ℕ) → all_ascii_digits ds ≡ true → 0 < length ds → read_literal (codes "none") (ds ++ rest) ≡ bad
-no_none [] rest all some = absurd (omega arith)
-no_none (c ∷ ds) rest all some =
-    let digit = and_parts (leb 48 c) (leb c 57) (and_parts (is_ascii_digit c) (all_ascii_digits ds) all).0 in
-    cond-false (eqb c 110) _ bad (ne_eqb c 110 (λ e. omega (arith, leb-true c 57 digit.1)))
+        ended show_fields Fields e (text, (omega arith, (good, tt)))
 
 field_no_none : (x : ℤ) (rest : List ℕ) → InRange x → read_literal (codes "none") (signed_decimal x ++ rest) ≡ bad
-field_no_none (pos n) rest good =
-    let fits : n < 2 ^ 64 = omega (arith, ints) in
-    no_none (decimal n) rest (digits_decimal own n fits) (decimal_nonempty n fits)
+field_no_none (pos n) rest good = no_number 110 (codes "one") n rest refl (omega (arith, ints))
 field_no_none (negsuc n) rest good = refl
 
 fields_no_none : (xs : List ℤ) (rest : List ℕ) → Fields xs → read_literal (codes "none") (show_fields xs ++ rest) ≡ bad
@@ -111,8 +96,7 @@ reading_back : (o : Option (List ℤ)) (rest : List ℕ) → Writable o → Ends
 reading_back None rest good ends = refl
 reading_back (Some xs) rest good ends =
     let long = fields_long xs good.1 in
-    ap (λ g. if_came g (λ rest. got None rest) (read_fields (show_fields xs ++ rest) ⨟ λ xs rest. got (Some xs) rest)) (fields_no_none xs rest good)
-    ∙ ap (λ g. g ⨟ λ xs rest. got (Some xs) rest) (fields_back (length (show_fields xs ++ rest)) xs rest (simp length-append (omega arith)) good ends)
+    rw (fields_no_none xs rest good, fields_back (length (show_fields xs ++ rest)) xs rest (simp length-append (omega arith)) good ends) refl
 
 reading_only : (s : List ℕ) (o : Option (List ℤ)) (rest : List ℕ) → read_reading s ≡ got o rest → (s ≡ show_reading o ++ rest) × Writable o
 reading_only s o rest e = by (read_literal (codes "none") s) refl (read_fields s) refl e
@@ -120,14 +104,10 @@ reading_only s o rest e = by (read_literal (codes "none") s) refl (read_fields s
     by : (c : Got (Unit {0})) → read_literal (codes "none") s ≡ c → (g : Got (List ℤ)) → read_fields s ≡ g →
         if_came c (λ rest. got None rest) (g ⨟ λ xs rest. got (Some xs) rest) ≡ got o rest → (s ≡ show_reading o ++ rest) × Writable o
     by (got u t) c g f e =
-        let o_is : None ≡ o = cc in
-        let end : t ≡ rest = cc in
-        rw (← o_is, ← end) (((literal (codes "none")).only s u t c).0, tt)
+        ended show_reading Writable e (((literal (codes "none")).only s u t c).0, tt)
     by bad c (got xs t) f e =
-        let o_is : Some xs ≡ o = cc in
-        let end : t ≡ rest = cc in
-        rw (← o_is, ← end) (fields_only (length s) s xs t f)
-    by bad c bad f e = let z : ◌≡◌ {A = ℕ} 0 1 = cc in absurd (omega arith)
+        ended show_reading Writable e (fields_only (length s) s xs t f)
+    by bad c bad f e = cc
 
 pub reading : Reads read_reading show_reading Writable Ends
 reading = record { back = reading_back; only = reading_only }

@@ -11,33 +11,29 @@ use Rattle.listing.specs.Row.{Row, Writable, Few, Sayable}
 use Rattle.listing.specs.Show.{show_fields, show_reading, show_sub, show_number, show_row}
 use Rattle.listing.specs.Read.{got, read_number, read_reading, read_placed, read_readings, read_row}
 use Rattle.listing.specs.Promise.{ReadsJustWhatItShows}
-use Rattle.listing.proofs.Law.{Reads, NoDigit, step, taken, literal}
+use Rattle.listing.proofs.Law.{Reads, NoDigit, ended, step, taken, literal}
 use Rattle.listing.proofs.Whole.{whole}
 use Rattle.listing.proofs.Sub.{sub, small, large}
 use Rattle.listing.proofs.Readings.{reading}
 
-Numbered : TypeNumber → Type 0
+abbrev Numbered : TypeNumber → Type 0
 Numbered n = (n.main ≤ 65535) × (n.sub ≤ 65535)
 
 number_text : (a k b rest : List ℕ) → (a ++ (k ++ b)) ++ rest ≡ a ++ (k ++ (b ++ rest))
 number_text a k b rest = simp append_assoc
 
 number_back : (n : TypeNumber) (rest : List ℕ) → Numbered n → NoDigit rest → read_number (show_number n ++ rest) ≡ got n rest
-unfolding Numbered
 number_back n rest good stop =
     ap read_number (number_text (decimal n.main) (codes ".") (show_sub n.sub) rest)
     ∙ step (whole 65535 (omega arith)) _ n.main (codes "." ++ (show_sub n.sub ++ rest)) good.0 refl
     ∙ step sub _ n.sub rest good.1 stop
 
 number_only : (s : List ℕ) (n : TypeNumber) (rest : List ℕ) → read_number s ≡ got n rest → (s ≡ show_number n ++ rest) × Numbered n
-unfolding Numbered
 number_only s n rest e =
     taken (whole 65535 (omega arith)) _ s n rest e λ main t₁ text₁ main_most e.
     taken (literal (codes ".")) _ t₁ n rest e λ u t₂ text₂ good e.
     taken sub _ t₂ n rest e λ part t₃ text₃ sub_most e.
-    let n_is : record { main = main; sub = part } ≡ n = cc in
-    let end : t₃ ≡ rest = cc in
-    rw (← n_is, ← end) (
+    ended show_number Numbered e (
       text₁ ∙ ap (λ t. decimal main ++ t) (text₂ ∙ ap (λ t. codes "." ++ t) text₃) ∙ sym (number_text (decimal main) (codes ".") (show_sub part) t₃),
       (main_most, sub_most),
     )
@@ -46,7 +42,7 @@ number : Reads read_number show_number Numbered NoDigit
 number = record { back = number_back; only = number_only }
 
 -- the two halves of a line
-Placed : ℕ × TypeNumber → Type 0
+abbrev Placed : ℕ × TypeNumber → Type 0
 Placed p = (p.0 ≤ 65535) × Numbered p.1
 
 abbrev show_placed : ℕ × TypeNumber → List ℕ
@@ -56,22 +52,18 @@ placed_text : (k₁ a k₂ b rest : List ℕ) → (k₁ ++ (a ++ (k₂ ++ b))) +
 placed_text k₁ a k₂ b rest = simp append_assoc
 
 placed_back : (p : ℕ × TypeNumber) (rest : List ℕ) → Placed p → NoDigit rest → read_placed (show_placed p ++ rest) ≡ got p rest
-unfolding Placed
 placed_back p rest good stop =
     ap read_placed (placed_text (codes "point=") (decimal p.0) (codes " type=") (show_number p.1) rest)
     ∙ step (whole 65535 (omega arith)) _ p.0 (codes " type=" ++ (show_number p.1 ++ rest)) good.0 refl
     ∙ step number _ p.1 rest good.1 stop
 
 placed_only : (s : List ℕ) (p : ℕ × TypeNumber) (rest : List ℕ) → read_placed s ≡ got p rest → (s ≡ show_placed p ++ rest) × Placed p
-unfolding Placed
 placed_only s p rest e =
     taken (literal (codes "point=")) _ s p rest e λ u₁ t₁ e₁ g₁ e.
     taken (whole 65535 (omega arith)) _ t₁ p rest e λ point t₂ e₂ point_most e.
     taken (literal (codes " type=")) _ t₂ p rest e λ u₃ t₃ e₃ g₃ e.
     taken number _ t₃ p rest e λ n t₄ e₄ n_good e.
-    let p_is : (point, n) ≡ p = cc in
-    let end : t₄ ≡ rest = cc in
-    rw (← p_is, ← end) (
+    ended show_placed Placed e (
       e₁ ∙ ap (λ t. codes "point=" ++ t) (e₂ ∙ ap (λ t. decimal point ++ t) (e₃ ∙ ap (λ t. codes " type=" ++ t) e₄))
           ∙ sym (placed_text (codes "point=") (decimal point) (codes " type=") (show_number n) t₄),
       (point_most, n_good),
@@ -80,7 +72,7 @@ placed_only s p rest e =
 placed : Reads read_placed show_placed Placed NoDigit
 placed = record { back = placed_back; only = placed_only }
 
-Two : Option (List ℤ) × Option (List ℤ) → Type 0
+abbrev Two : Option (List ℤ) × Option (List ℤ) → Type 0
 Two v = Writable v.0 × Writable v.1
 
 abbrev show_readings : Option (List ℤ) × Option (List ℤ) → List ℕ
@@ -90,23 +82,19 @@ readings_text : (k₁ a k₂ b k₃ rest : List ℕ) → (k₁ ++ (a ++ (k₂ ++
 readings_text k₁ a k₂ b k₃ rest = simp append_assoc
 
 readings_back : (v : Option (List ℤ) × Option (List ℤ)) (rest : List ℕ) → Two v → Unit {0} → read_readings read_reading (show_readings v ++ rest) ≡ got v rest
-unfolding Two
 readings_back v rest good stop =
     ap (read_readings read_reading) (readings_text (codes " normal=") (show_reading v.0) (codes " forced=") (show_reading v.1) (codes "\n") rest)
     ∙ step reading _ v.0 (codes " forced=" ++ (show_reading v.1 ++ (codes "\n" ++ rest))) good.0 (refl, refl)
     ∙ step reading _ v.1 (codes "\n" ++ rest) good.1 (refl, refl)
 
 readings_only : (s : List ℕ) (v : Option (List ℤ) × Option (List ℤ)) (rest : List ℕ) → read_readings read_reading s ≡ got v rest → (s ≡ show_readings v ++ rest) × Two v
-unfolding Two
 readings_only s v rest e =
     taken (literal (codes " normal=")) _ s v rest e λ u₁ t₁ e₁ g₁ e.
     taken reading _ t₁ v rest e λ normal t₂ e₂ normal_good e.
     taken (literal (codes " forced=")) _ t₂ v rest e λ u₃ t₃ e₃ g₃ e.
     taken reading _ t₃ v rest e λ forced t₄ e₄ forced_good e.
     taken (literal (codes "\n")) _ t₄ v rest e λ u₅ t₅ e₅ g₅ e.
-    let v_is : (normal, forced) ≡ v = cc in
-    let end : t₅ ≡ rest = cc in
-    rw (← v_is, ← end) (
+    ended show_readings Two e (
       e₁ ∙ ap (λ t. codes " normal=" ++ t) (e₂ ∙ ap (λ t. show_reading normal ++ t) (e₃ ∙ ap (λ t. codes " forced=" ++ t) (e₄ ∙ ap (λ t. show_reading forced ++ t) e₅)))
           ∙ sym (readings_text (codes " normal=") (show_reading normal) (codes " forced=") (show_reading forced) (codes "\n") t₅),
       (normal_good, forced_good),
@@ -119,7 +107,7 @@ row_text : (k₁ a k₂ b v rest : List ℕ) → (k₁ ++ (a ++ (k₂ ++ (b ++ v
 row_text k₁ a k₂ b v rest = simp append_assoc
 
 pub row_back : (r : Row) (rest : List ℕ) → Sayable r → read_row (show_row r ++ rest) ≡ got r rest
-unfolding read_row Numbered Placed Two
+unfolding read_row
 row_back r rest good =
     let values = show_readings (r.normal, r.forced) in
     ap read_row (row_text (codes "point=") (decimal r.point) (codes " type=") (show_number r.number) values rest)
@@ -127,13 +115,11 @@ row_back r rest good =
     ∙ step readings _ (r.normal, r.forced) rest (good.normal_good, good.forced_good) tt
 
 pub row_only : (s : List ℕ) (r : Row) (rest : List ℕ) → read_row s ≡ got r rest → (s ≡ show_row r ++ rest) × Sayable r
-unfolding read_row Numbered Placed Two
+unfolding read_row
 row_only s r rest e =
     taken placed _ s r rest e λ p t e₁ p_good e.
     taken readings _ t r rest e λ v u e₂ v_good e.
-    let r_is : record { point = p.0; number = p.1; normal = v.0; forced = v.1 } ≡ r = cc in
-    let end : u ≡ rest = cc in
-    rw (← r_is, ← end) (
+    ended show_row Sayable e (
       e₁ ∙ ap (λ t. show_placed p ++ t) e₂ ∙ sym (row_text (codes "point=") (decimal p.0) (codes " type=") (show_number p.1) (show_readings v) u),
       record { point_most = p_good.0; main_most = p_good.1.0; sub_most = p_good.1.1; normal_good = v_good.0; forced_good = v_good.1 },
     )

@@ -5,7 +5,7 @@ use Rattle.std.proofs.lemmas.Bool.{leb-true, le-leb, ne_eqb, lt-ltb, le-ltb, con
 use Rattle.std.proofs.lemmas.Fmt.{decimal_digit, decimal_step, decimal_nonempty, first_decimal}
 use Rattle.listing.specs.Show.{show_sub}
 use Rattle.listing.specs.Read.{Got, got, bad, ◌⨟◌, if_came, read_literal, read_whole, read_digit, read_sub}
-use Rattle.listing.proofs.Law.{Reads, NoDigit, step, taken, literal}
+use Rattle.listing.proofs.Law.{Reads, NoDigit, ended, step, taken, literal}
 use Rattle.listing.proofs.Whole.{whole}
 
 -- a small sub number shows as a 0 and two digits
@@ -33,7 +33,7 @@ digit_back d rest h u =
     cond-true (is_ascii_digit (48 + d)) _ bad is_digit ∙ ap (λ n. got n rest) value
 
 digit_only : (s : List ℕ) (d : ℕ) (rest : List ℕ) → read_digit s ≡ got d rest → (s ≡ (48 + d) ∷ rest) × (d < 10)
-digit_only [] d rest e = let z : ◌≡◌ {A = ℕ} 0 1 = cc in absurd (omega arith)
+digit_only [] d rest e = cc
 digit_only (c ∷ s) d rest e = by (is_ascii_digit c) refl e
   where
     by : (t : Bool) → is_ascii_digit c ≡ t → cond t (got (c - 48) s) bad ≡ got d rest → ((c ∷ s) ≡ (48 + d) ∷ rest) × (d < 10)
@@ -44,12 +44,12 @@ digit_only (c ∷ s) d rest e = by (is_ascii_digit c) refl e
         let d_is : c - 48 ≡ d = cc in
         let c_is : c ≡ 48 + d = omega arith in
         (cc, omega arith)
-    by false t e = let z : ◌≡◌ {A = ℕ} 0 1 = cc in absurd (omega arith)
+    by false t e = cc
 
 digit : Reads read_digit (λ d. (48 + d) ∷ []) (λ d. d < 10) (λ _. Unit {0})
 digit = record { back = digit_back; only = digit_only }
 
-tens_ones : ℕ → List ℕ → Got ℕ
+abbrev tens_ones : ℕ → List ℕ → Got ℕ
 tens_ones tens rest = read_digit rest ⨟ λ ones rest. got (10 * tens + ones) rest
 
 -- a number of three digits begins with no 0
@@ -57,11 +57,10 @@ no_zero : (ds rest : List ℕ) → 0 < length ds → 48 < get_or ds 0 0 → read
 no_zero [] rest some first = absurd (omega arith)
 no_zero (c ∷ ds) rest some first = cond-false (eqb c 48) _ _ (ne_eqb c 48 (λ e. omega arith))
 
-keep : ℕ → List ℕ → Got ℕ
+abbrev keep : ℕ → List ℕ → Got ℕ
 keep n rest = cond (leb 100 n) (got n rest) bad
 
 sub_back : (n : ℕ) (rest : List ℕ) → n ≤ 65535 → NoDigit rest → read_sub (show_sub n ++ rest) ≡ got n rest
-unfolding keep tens_ones
 sub_back n rest most stop = elim (cases_lt n 100) [ inl l ↦ pair l | inr l ↦ more l ]
   where
     pair : n < 100 → read_sub (show_sub n ++ rest) ≡ got n rest
@@ -75,13 +74,10 @@ sub_back n rest most stop = elim (cases_lt n 100) [ inl l ↦ pair l | inr l ↦
     more : 100 ≤ n → read_sub (show_sub n ++ rest) ≡ got n rest
     more l =
         let fits : n < 2 ^ 64 = omega arith in
-        ap (λ s. read_sub (s ++ rest)) (large n l)
-        ∙ ap (λ g. if_came g (λ rest. read_digit rest ⨟ tens_ones) (read_whole 65535 (decimal n ++ rest) ⨟ keep)) (no_zero (decimal n) rest (decimal_nonempty n fits) (first_decimal n (omega arith) fits))
-        ∙ step (whole 65535 (omega arith)) keep n rest most stop
-        ∙ cond-true (leb 100 n) _ _ (le-leb 100 n l)
+        rw (large n l, no_zero (decimal n) rest (decimal_nonempty n fits) (first_decimal n (omega arith) fits))
+        (step (whole 65535 (omega arith)) keep n rest most stop ∙ cond-true (leb 100 n) _ _ (le-leb 100 n l))
 
 pair_only : (s : List ℕ) (n : ℕ) (rest : List ℕ) → (read_digit s ⨟ tens_ones) ≡ got n rest → (n < 100) × (s ≡ (48 + n / 10) ∷ ((48 + n % 10) ∷ rest))
-unfolding tens_ones
 pair_only s n rest e =
     taken digit _ s n rest e λ tens t text₁ tens_small e.
     taken digit _ t n rest e λ ones u text₂ ones_small e.
@@ -92,16 +88,13 @@ pair_only s n rest e =
     (omega arith, cc)
 
 sub_only : (s : List ℕ) (n : ℕ) (rest : List ℕ) → read_sub s ≡ got n rest → (s ≡ show_sub n ++ rest) × (n ≤ 65535)
-unfolding keep tens_ones
 sub_only s n rest e = by (read_literal (codes "0") s) refl e
   where
     kept : (m : ℕ) (t : List ℕ) → s ≡ decimal m ++ t → m ≤ 65535 → (l : Bool) → leb 100 m ≡ l → cond l (got m t) bad ≡ got n rest → (s ≡ show_sub n ++ rest) × (n ≤ 65535)
     kept m t text most true l e =
-        let m_is : m ≡ n = cc in
-        let end : t ≡ rest = cc in
-        let shown = large n (omega (arith, leb-true 100 m l)) in
-        (rw shown (rw (← m_is, ← end) text), omega arith)
-    kept m t text most false l e = let z : ◌≡◌ {A = ℕ} 0 1 = cc in absurd (omega arith)
+        let shown = large m (omega (arith, leb-true 100 m l)) in
+        ended show_sub (λ n. n ≤ 65535) e (rw shown text, most)
+    kept m t text most false l e = cc
 
     by : (c : Got (Unit {0})) → read_literal (codes "0") s ≡ c → if_came c (λ rest. read_digit rest ⨟ tens_ones) (read_whole 65535 s ⨟ keep) ≡ got n rest → (s ≡ show_sub n ++ rest) × (n ≤ 65535)
     by (got u t) c e =

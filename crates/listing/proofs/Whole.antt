@@ -5,8 +5,8 @@ use Rattle.std.specs.Str.{all_ascii_digits}
 use Rattle.std.proofs.lemmas.Bool.{eqb-true, eqb-false, ne_eqb, leb-true, le-leb, cond-true, cond-false, and_parts, and_from}
 use Rattle.std.proofs.lemmas.Str.Parse.{IsNumeralModel, numerals_by_fold}
 use Rattle.std.proofs.lemmas.Fmt.{digits_decimal, digits_value-decimal, decimal-digits_value, decimal_nonempty, first_decimal, decimal_digit}
-use Rattle.listing.specs.Read.{got, bad, read_digits, read_whole}
-use Rattle.listing.proofs.Law.{Reads, NoDigit}
+use Rattle.listing.specs.Read.{got, bad, read_literal, read_digits, read_whole}
+use Rattle.listing.proofs.Law.{Reads, NoDigit, ended}
 
 -- the number that digits write behind n
 abbrev pub value_on : ℕ → List ℕ → ℕ
@@ -52,7 +52,7 @@ digits_only limit n (c ∷ s) m rest h e = by (is_ascii_digit c) refl (leb k lim
     by true digit true within ih e =
         let r = ih (leb-true k limit within) e in
         record { digits = c ∷ r.digits; text = ap (λ t. c ∷ t) r.text; all = and_from (is_ascii_digit c) (all_ascii_digits r.digits) digit r.all; value = r.value; most = r.most }
-    by true digit false over ih e = let z : ◌≡◌ {A = ℕ} 0 1 = cc in absurd (omega arith)
+    by true digit false over ih e = cc
     by false other l t ih e =
         let same : n ≡ m = cc in
         record { digits = []; text = cc; all = refl; value = same; most = omega arith }
@@ -74,7 +74,7 @@ whole_back limit few (suc n) rest most stop =
     ∙ ap (λ m. got m rest) v
 
 whole_only : (limit : ℕ) → limit < 2 ^ 64 → (s : List ℕ) (n : ℕ) (rest : List ℕ) → read_whole limit s ≡ got n rest → (s ≡ decimal n ++ rest) × (n ≤ limit)
-whole_only limit few [] n rest e = let z : ◌≡◌ {A = ℕ} 0 1 = cc in absurd (omega arith)
+whole_only limit few [] n rest e = cc
 whole_only limit few (c ∷ s) n rest e = by (eqb c 48) refl (is_ascii_digit c) refl (leb (10 * 0 + (c - 48)) limit) refl e
   where
     k : ℕ
@@ -84,13 +84,10 @@ whole_only limit few (c ∷ s) n rest e = by (eqb c 48) refl (is_ascii_digit c) 
         cond z (got 0 s) (cond d (cond d (cond l (read_digits limit k s) bad) (got 0 (c ∷ s))) bad) ≡ got n rest → ((c ∷ s) ≡ decimal n ++ rest) × (n ≤ limit)
     by true zero_digit d g l t e =
         let c_is = eqb-true c 48 zero_digit in
-        let n_is : 0 ≡ n = cc in
         let shown = decimal_digit 0 (omega arith) in
-        let same : decimal n ≡ 48 ∷ [] = cc in
-        let end : s ≡ rest = cc in
-        (rw same (cc), omega arith)
-    by false other false g l t e = let z : ◌≡◌ {A = ℕ} 0 1 = cc in absurd (omega arith)
-    by false other true g false t e = let z : ◌≡◌ {A = ℕ} 0 1 = cc in absurd (omega arith)
+        ended decimal (λ n. n ≤ limit) e (rw shown cc, omega arith)
+    by false other false g l t e = cc
+    by false other true g false t e = cc
     by false other true g true t e =
         let r = digits_only limit k s n rest (leb-true k limit t) e in
         let ds : List ℕ = c ∷ r.digits in
@@ -98,6 +95,16 @@ whole_only limit few (c ∷ s) n rest e = by (eqb c 48) refl (is_ascii_digit c) 
         decimal-digits_value own ds (and_from (is_ascii_digit c) (all_ascii_digits r.digits) g r.all) (omega arith) (λ z. absurd (eqb-false c 48 other z)) (omega (arith, r.value, r.most)) in
         let shown : decimal n ≡ ds = ap decimal (sym r.value) ∙ back in
         (rw shown (ap (λ t. c ∷ t) r.text), r.most)
+
+-- a number begins no literal that begins with another octet than a digit
+pub no_number : (k : ℕ) (key : List ℕ) (n : ℕ) (rest : List ℕ) → is_ascii_digit k ≡ false → n < 2 ^ 64 → read_literal (k ∷ key) (decimal n ++ rest) ≡ bad
+no_number k key n rest other fits = by (decimal n) (digits_decimal own n fits) (decimal_nonempty n fits)
+  where
+    by : (ds : List ℕ) → all_ascii_digits ds ≡ true → 0 < length ds → read_literal (k ∷ key) (ds ++ rest) ≡ bad
+    by [] all some = absurd (omega arith)
+    by (c ∷ ds) all some =
+        let digit = (and_parts (is_ascii_digit c) (all_ascii_digits ds) all).0 in
+        cond-false (eqb c k) _ bad (ne_eqb c k (λ e. cc))
 
 pub whole : (limit : ℕ) → limit < 2 ^ 64 → Reads (read_whole limit) decimal (λ n. n ≤ limit) NoDigit
 whole limit few = record { back = whole_back limit few; only = whole_only limit few }

@@ -1,14 +1,15 @@
 -- The fields of a kept reading. Assumes nothing.
-use Rattle.std.specs.Prelude.{ℕ, List, [], ◌∷◌, ◌++◌, length, take, ℤ, Some, None, Option, nat_le}
+use denote.Ref.{Bor}
+use Rattle.std.specs.Prelude.{List, [], ◌∷◌, ◌++◌, length, ℤ, Some, None, Option, option_copied, nat_le}
 use Rattle.datapoint.specs.Shapes.{when}
-use Rattle.book.specs.declared.number.TypeNumber.{TypeNumber}
 use Rattle.listing.specs.Row.{Row}
-use Rattle.listing.specs.declared.reading.Reading.{Reading}
+use Rattle.arrayvec.specs.ArrayVec.{ArrayVec}
+use Rattle.listing.specs.declared.line.Line.{Line}
 
-abbrev pub fields_of : Reading → List ℤ
-fields_of r = take r.count r.places
+abbrev pub fields_of : ArrayVec ℤ → List ℤ
+fields_of r = r.items
 
-abbrev pub fields_in : Option Reading → Option (List ℤ)
+abbrev pub fields_in : Option (ArrayVec ℤ) → Option (List ℤ)
 fields_in None = None
 fields_in (Some r) = Some (fields_of r)
 
@@ -20,6 +21,6 @@ abbrev pub lengthened : Option (List ℤ) → ℤ → Option (List ℤ)
 lengthened None x = None
 lengthened (Some xs) x = kept (xs ++ (x ∷ []))
 
--- the row of a placed point
-abbrev pub row_of : ℕ → TypeNumber → Option Reading → Option Reading → Row
-row_of point number normal forced = record { point = point; number = number; normal = fields_in normal; forced = fields_in forced }
+-- the row of a line
+abbrev pub row_of : Line (Bor (ArrayVec ℤ)) → Row
+row_of l = record { point = l.point; number = l.number; normal = fields_in (option_copied l.normal); forced = fields_in (option_copied l.forced) }

@@ -1,9 +1,9 @@
 -- What a line says, as the code keeps it. Assumes nothing.
-use Rattle.std.specs.Prelude.{ℕ, List, ℤ, Some, None, Option}
+use Rattle.std.specs.Prelude.{ℕ, List, ℤ, Some, None, Ok, Err, Option, Result}
+use Rattle.arrayvec.specs.ArrayVec.{ArrayVec}
 use Rattle.book.specs.declared.number.TypeNumber.{TypeNumber}
 use Rattle.listing.specs.declared.line.Line.{Line}
-use Rattle.listing.specs.declared.line.Value.{Value}
-use Rattle.listing.specs.declared.line.Value.TheVariants.{Missing, Fields, TooMany}
+use Rattle.listing.specs.declared.line.TooMany.{TooMany}
 use Rattle.listing.specs.Row.{Row}
 use Rattle.listing.specs.Read.{Got, got, bad, ◌⨟◌, read_reading, read_placed, read_readings}
 use Rattle.listing.specs.Fields.{fields_of, kept}
@@ -14,14 +14,23 @@ pub data Held : Type 0 where
   these : List ℤ → Held
   too_many : Held
 
-abbrev pub held_of : Value → Held
-held_of Missing = missing
-held_of (Fields r) = these (fields_of r)
-held_of TooMany = too_many
+-- a reading as the code keeps it, unless it has too many fields
+abbrev pub Kept : Type 0
+Kept = Result (ArrayVec ℤ) TooMany
+
+-- the fields of a reading that could be kept
+abbrev pub kept_in : Kept → Option (List ℤ)
+kept_in (Ok r) = Some (fields_of r)
+kept_in (Err e) = None
 
 abbrev pub held_fields : Option (List ℤ) → Held
 held_fields None = too_many
 held_fields (Some xs) = these xs
+
+-- a reading as it was read, perhaps `none`
+abbrev pub held_of : Option Kept → Held
+held_of None = missing
+held_of (Some r) = held_fields (kept_in r)
 
 abbrev pub held : Option (List ℤ) → Held
 held None = missing
@@ -35,7 +44,7 @@ got_as f bad = bad
 abbrev pub read_held : List ℕ → Got Held
 read_held text = got_as held (read_reading text)
 
-abbrev pub both_of : Value × Value → Held × Held
+abbrev pub both_of : Option Kept × Option Kept → Held × Held
 both_of v = (held_of v.0, held_of v.1)
 
 -- a row whose readings are held
@@ -45,7 +54,7 @@ pub record Said : Type 0 where
   pub normal : Held
   pub forced : Held
 
-abbrev pub line_said : Line → Said
+abbrev pub line_said : Line Kept → Said
 line_said l = record { point = l.point; number = l.number; normal = held_of l.normal; forced = held_of l.forced }
 
 abbrev pub row_said : Row → Said

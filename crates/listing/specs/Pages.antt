@@ -1,18 +1,19 @@
--- The text on a page. Assumes nothing.
-use Rattle.std.specs.Prelude.{ℕ, ◌+◌, Bool, true, false, List, ◌++◌, length, take, nat_le}
-use Rattle.listing.specs.declared.draft.Draft.{Draft}
-use Rattle.listing.specs.declared.page.Page.{Page}
+-- What is added to a page. Assumes nothing.
+use Rattle.std.specs.Prelude.{ℕ, ◌+◌, Bool, true, false, List, ◌++◌, length, Ok, Err, Result, nat_le}
+use Rattle.arrayvec.specs.declared.errors.CapacityError.{CapacityError}
 
-abbrev pub draft_text : Draft → List ℕ
-draft_text d = take d.len d.octets
+-- an answer, and a text after it
+abbrev pub Added : Type 0
+Added = Result (Unit {0}) (CapacityError (Unit {0})) × List ℕ
 
-abbrev pub page_text : Page → List ℕ
-page_text p = take p.len p.octets
+abbrev pub added : Bool → List ℕ → List ℕ → Added
+added true text more = (Ok tt, text ++ more)
+added false text more = (Err (record { element = tt }), text)
 
-abbrev pub added : Bool → List ℕ → List ℕ → Bool × List ℕ
-added true text line = (true, text ++ line)
-added false text line = (false, text)
+-- more comes behind a text; where there is no room for all of it, the text stays as it was
+abbrev pub with_all : ℕ → List ℕ → List ℕ → Added
+with_all room text more = added (nat_le (length text + length more) room) text more
 
--- a line comes behind what is on the page; where there is no room, the page stays as it was
-abbrev pub with_line : List ℕ → List ℕ → Bool × List ℕ
-with_line text line = added (nat_le (length text + length line) 36864) text line
+-- a line comes behind what is on the page
+abbrev pub with_line : List ℕ → List ℕ → Added
+with_line text line = with_all 36864 text line

@@ -8,3 +8,4 @@ mod numerals;
 pub mod page;
 pub mod read;
 pub mod reading;
+pub mod sheet;

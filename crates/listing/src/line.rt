@@ -2,20 +2,18 @@
 use crate::reading::Reading;
 use book::number::TypeNumber;
 
-// A reading as it stands in a line.
-#[derive(Clone, Copy)]
-pub enum Value {
-    // `none`.
-    Missing,
-    Fields(Reading),
-    // More than sixteen fields, which no type has.
-    TooMany,
-}
+// More than sixteen fields, which no type has.
+#[derive(Clone, Copy, PartialEq, Eq, Debug)]
+pub struct TooMany;
 
-#[derive(Clone, Copy)]
-pub struct Line {
+// A reading as it was read from a line, which may be `none`.
+pub type Value = Option<Result<Reading, TooMany>>;
+
+// A point, its type number, and its normal and its forced reading, where it has them.
+#[derive(Drop)]
+pub struct Line<R> {
     pub point: u16,
     pub number: TypeNumber,
-    pub normal: Value,
-    pub forced: Value,
+    pub normal: Option<R>,
+    pub forced: Option<R>,
 }

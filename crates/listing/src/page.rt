@@ -1,12 +1,25 @@
 // A page of lines.
-ghost use Rattle.std.specs.Prelude.{◌≤◌};
+ghost use Rattle.std.specs.Prelude.{◌≡◌, ◌≤◌, length};
+ghost use Rattle.listing.specs.Show.{show_row};
+ghost use Rattle.listing.specs.Fields.{row_of};
+ghost use Rattle.listing.specs.Pages.{with_line};
 
-mod lines;
+use crate::draft::Draft;
+use crate::line::Line;
+use crate::reading::Reading;
+use crate::sheet::Sheet;
+use arrayvec::CapacityError;
 
-// The first `len` of the octets are the text; 48 lines have room.
-#[derive(Clone, Copy)]
-pub struct Page {
-    octets: [u8; 36864],
-    len: usize,
-    ghost room: { len ≤ 36864 },
+// 48 lines have room.
+pub type Page = Sheet<36864>;
+
+impl Sheet<36864> {
+    // Adds a placed point's line, unless there is no room for it.
+    pub fn push_line(&mut self, line: &Line<&Reading>) -> Result<(), CapacityError>
+        ensures line { (result, self.new) ≡ with_line self.old (show_row (row_of line.now)) }
+        ensures short { length (show_row (row_of line.now)) ≤ 768 }
+    {
+        let line = Draft::line(line);
+        self.try_push(line.text())
+    }
 }

@@ -1,113 +1,102 @@
-// Reading a line from a text.
-ghost use Rattle.std.specs.Prelude.{◌≡◌, ◌<◌, drop, IfSome};
+// Reading a line from the front of a text.
+ghost use Rattle.std.specs.Prelude.{◌≡◌, ◌<◌, length, IfSome};
 ghost use Rattle.listing.specs.Read.{read_number, read_fields, read_placed, read_readings, read_row};
-ghost use Rattle.listing.specs.Found.{found, found_as};
-ghost use Rattle.listing.specs.Fields.{fields_in, kept, lengthened};
-ghost use Rattle.listing.specs.Line.{held_of, both_of, line_said, row_said, got_as, read_held, read_said};
+ghost use Rattle.listing.specs.Found.{found};
+ghost use Rattle.listing.specs.Fields.{kept, lengthened};
+ghost use Rattle.listing.specs.Line.{kept_in, held_of, both_of, line_said, row_said, got_as, read_held, read_said};
 ghost use Rattle.listing.specs.Promise.{ReadsJustWhatItShows};
 
 use crate::keys::{COMMA, DOT, END, FORCED, NONE, NORMAL, POINT, TYPE};
-use crate::line::{Line, Value};
-use crate::numerals::{field_at, pass, sub_at, whole_at};
+use crate::line::{Line, TooMany, Value};
+use crate::numerals::{pass, read_field, read_sub, read_u16};
 use crate::reading::Reading;
 use book::number::TypeNumber;
 
-// The type number at `at`.
-fn number_at(text: &[u8], at: usize) -> Option<(TypeNumber, usize)>
-    ensures { found text.now result ≡ read_number (drop at text.now) }
+fn read_number(text: &[u8]) -> Option<(TypeNumber, &[u8])>
+    ensures { found result ≡ read_number text.now }
 {
-    let (main, next) = whole_at(text, at, 65_535)?;
-    let next = pass(text, next, DOT)?;
-    let (sub, next) = sub_at(text, next)?;
-    Some((
-        TypeNumber {
-            main: main as u16,
-            sub,
-        },
-        next,
-    ))
+    let (main, rest) = read_u16(text)?;
+    let rest = pass(rest, DOT)?;
+    let (sub, rest) = read_sub(rest)?;
+    Some((TypeNumber { main, sub }, rest))
 }
 
 // A reading and one more field, unless there are too many to be kept.
-fn longer(reading: Option<Reading>, field: i64) -> Option<Reading>
-    ensures { fields_in result ≡ lengthened (fields_in reading) field }
+fn longer(reading: Result<Reading, TooMany>, field: i64) -> Result<Reading, TooMany>
+    ensures { kept_in result ≡ lengthened (kept_in reading) field }
 {
-    reading?.with(field)
+    let mut reading = reading?;
+    reading.try_push(field).map_err(|_| TooMany)?;
+    Ok(reading)
 }
 
-// The fields at `at`, unless there are too many to be kept.
-fn fields_at(text: &[u8], at: usize) -> Option<(Option<Reading>, usize)>
-    ensures { found_as fields_in text.now result ≡ got_as kept (read_fields (drop at text.now)) }
+// Fields, unless there are too many to be kept.
+fn read_fields(mut text: &[u8]) -> Option<(Result<Reading, TooMany>, &[u8])>
+    ensures { got_as kept_in (found result) ≡ got_as kept (read_fields text.now) }
 {
-    let mut reading = Reading::new(&[]);
-    let mut place = at;
+    let mut reading = Ok(Reading::new());
     loop {
-        let (field, next) = field_at(text, place)?;
+        let (field, rest) = read_field(text)?;
         reading = longer(reading, field);
-        match pass(text, next, COMMA) {
-            Some(behind) => place = behind,
-            None => return Some((reading, next)),
+        match pass(rest, COMMA) {
+            Some(behind) => text = behind,
+            None => return Some((reading, rest)),
         }
     }
 }
 
-// The reading at `at`.
-fn value_at(text: &[u8], at: usize) -> Option<(Value, usize)>
-    ensures { found_as held_of text.now result ≡ read_held (drop at text.now) }
+fn read_value(text: &[u8]) -> Option<(Value, &[u8])>
+    ensures { got_as held_of (found result) ≡ read_held text.now }
 {
-    if let Some(next) = pass(text, at, NONE) {
-        return Some((Value::Missing, next));
+    if let Some(rest) = pass(text, NONE) {
+        return Some((None, rest));
     }
-    match fields_at(text, at)? {
-        (Some(reading), next) => Some((Value::Fields(reading), next)),
-        (None, next) => Some((Value::TooMany, next)),
-    }
+    let (reading, rest) = read_fields(text)?;
+    Some((Some(reading), rest))
 }
 
-// The point and the type number of the line at `at`.
-fn placed_at(text: &[u8], at: usize) -> Option<((u16, TypeNumber), usize)>
-    ensures { found text.now result ≡ read_placed (drop at text.now) }
+// The point and the type number of a line.
+fn read_placed(text: &[u8]) -> Option<((u16, TypeNumber), &[u8])>
+    ensures { found result ≡ read_placed text.now }
 {
-    let next = pass(text, at, POINT)?;
-    let (point, next) = whole_at(text, next, 65_535)?;
-    let next = pass(text, next, TYPE)?;
-    let (number, next) = number_at(text, next)?;
-    Some(((point as u16, number), next))
+    let rest = pass(text, POINT)?;
+    let (point, rest) = read_u16(rest)?;
+    let rest = pass(rest, TYPE)?;
+    let (number, rest) = read_number(rest)?;
+    Some(((point, number), rest))
 }
 
 // The readings that end the line.
-fn readings_at(text: &[u8], at: usize) -> Option<((Value, Value), usize)>
-    ensures { found_as both_of text.now result ≡ read_readings read_held (drop at text.now) }
+fn read_readings(text: &[u8]) -> Option<((Value, Value), &[u8])>
+    ensures { got_as both_of (found result) ≡ read_readings read_held text.now }
 {
-    let next = pass(text, at, NORMAL)?;
-    let (normal, next) = value_at(text, next)?;
-    let next = pass(text, next, FORCED)?;
-    let (forced, next) = value_at(text, next)?;
-    let next = pass(text, next, END)?;
-    Some(((normal, forced), next))
+    let rest = pass(text, NORMAL)?;
+    let (normal, rest) = read_value(rest)?;
+    let rest = pass(rest, FORCED)?;
+    let (forced, rest) = read_value(rest)?;
+    let rest = pass(rest, END)?;
+    Some(((normal, forced), rest))
 }
 
-fn line_at(text: &[u8], at: usize) -> Option<(Line, usize)>
-    ensures { found_as line_said text.now result ≡ read_said (drop at text.now) }
+fn read_said(text: &[u8]) -> Option<(Line<Result<Reading, TooMany>>, &[u8])>
+    ensures { got_as line_said (found result) ≡ read_said text.now }
 {
-    let ((point, number), next) = placed_at(text, at)?;
-    let ((normal, forced), next) = readings_at(text, next)?;
-    Some((
-        Line {
-            point,
-            number,
-            normal,
-            forced,
-        },
-        next,
-    ))
+    let ((point, number), rest) = read_placed(text)?;
+    let ((normal, forced), rest) = read_readings(rest)?;
+    let line = Line {
+        point,
+        number,
+        normal,
+        forced,
+    };
+    Some((line, rest))
 }
 
-// The line that begins at `at`, and the place behind it.
-pub fn read_line(text: &[u8], at: usize) -> Option<(Line, usize)>
-    ensures line { found_as line_said text.now result ≡ got_as row_said (read_row (drop at text.now)) }
-    ensures onward { IfSome result (λ p. at < p.1) }
+// The line that begins the text, and the rest.
+pub fn read_line(text: &[u8]) -> Option<(Line<Result<Reading, TooMany>>, &[u8])>
+    ensures line { got_as line_said (found result) ≡ got_as row_said (read_row text.now) }
+    ensures onward { IfSome result (λ p. length p.1.now < length text.now) }
     ensures law { ReadsJustWhatItShows }
 {
-    line_at(text, at)
+    read_said(text)
 }

@@ -1,12 +1,5 @@
 // A reading as a point keeps it.
-ghost use Rattle.std.specs.Prelude.{◌≤◌};
+use arrayvec::ArrayVec;
 
-mod fields;
-
-// The first `count` of the places are the fields.
-#[derive(Clone, Copy)]
-pub struct Reading {
-    count: usize,
-    places: [i64; 16],
-    ghost few: { count ≤ 16 },
-}
+// At most sixteen fields, as every type has.
+pub type Reading = ArrayVec<i64, 16>;

@@ -1,29 +1,28 @@
 -- What the board's own records mean. Assumes nothing.
-use Rattle.std.specs.Prelude.{List, ℤ, Ok, Err, Result}
+use Rattle.std.specs.Prelude.{List, ℤ, Some, None, Ok, Err, Option, Result}
 use Rattle.datapoint.specs.declared.refusal.Refusal.{Refusal}
 use Rattle.datapoint.specs.Refusals.{told}
-use Rattle.listing.specs.declared.reading.Reading.{Reading}
+use Rattle.arrayvec.specs.ArrayVec.{ArrayVec}
 use Rattle.listing.specs.Fields.{fields_of, fields_in}
 use Rattle.model.specs.Points.{Point, unplaced, placed}
 use Rattle.model.specs.Calls.{Answer, Told}
-use Rattle.points.specs.declared.placed.Placed.{Placed as Record}
-use Rattle.points.specs.declared.point.Point.{Point as Kept}
-use Rattle.points.specs.declared.point.Point.TheVariants.{Unplaced, Placed}
+use Rattle.points.specs.declared.placed.Placed.{Placed}
 use Rattle.points.specs.declared.placed.Telling.{Telling}
 use Rattle.points.specs.Marks.{mark_number}
 
 -- a reading that was taken, or the refusal as it is told
-abbrev pub taken_reading : Result Reading Refusal → Answer (List ℤ)
+abbrev pub taken_reading : Result (ArrayVec ℤ) Refusal → Answer (List ℤ)
 taken_reading (Ok r) = Ok (fields_of r)
 taken_reading (Err e) = Err (told e)
 
--- a point of the table
-abbrev pub placed_point : Record → Point
+-- a placed point
+abbrev pub placed_point : Placed → Point
 placed_point p = placed p.number (fields_in p.normal) (fields_in p.forced)
 
-abbrev pub point_of : Kept → Point
-point_of Unplaced = unplaced
-point_of (Placed p) = placed_point p
+-- a place of the table
+abbrev pub point_of : Option Placed → Point
+point_of None = unplaced
+point_of (Some p) = placed_point p
 
 -- what a read answers, the mark by its number, or the refusal as it is told
 abbrev pub telling_answer : Result Telling Refusal → Answer Told

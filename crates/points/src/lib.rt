@@ -1,7 +1,6 @@
-// The points of a board.
+// What a point of a board keeps, takes and tells.
 #![tactic(auto)]
 
 pub mod mark;
 pub mod placed;
-pub mod point;
 pub mod take;

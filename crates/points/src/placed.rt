@@ -1,6 +1,8 @@
 // A placed point.
-ghost use Rattle.std.specs.Prelude.{◌≡◌};
+ghost use Rattle.std.specs.Prelude.{◌≡◌, option_copied};
 ghost use Rattle.datapoint.specs.Refusals.{answer};
+ghost use Rattle.listing.specs.Fields.{fields_in};
+ghost use Rattle.model.specs.Points.{telling};
 ghost use Rattle.model.specs.Calls.{receiving, setting, overriding, releasing, reading_out, sending_out};
 ghost use Rattle.points.specs.Marks.{mark_of};
 ghost use Rattle.points.specs.Model.{placed_point, telling_answer};
@@ -14,7 +16,7 @@ use datapoint::refusal::Refusal;
 use listing::reading::Reading;
 
 // Its type number, perhaps a normal reading and perhaps a forced reading.
-#[derive(Clone, Copy)]
+#[derive(Drop)]
 pub struct Placed {
     pub number: TypeNumber,
     pub normal: Option<Reading>,
@@ -76,14 +78,20 @@ impl Placed {
         Ok(0)
     }
 
+    // The forced reading, or else the normal one.
+    fn told(&self) -> Option<&Reading>
+        ensures { fields_in (option_copied result) ≡ telling (fields_in self.now.normal) (fields_in self.now.forced) }
+    {
+        self.forced.as_ref().or(self.normal.as_ref())
+    }
+
     // The told reading, into the front of `out`.
     pub fn read(&self, out: &mut [i64]) -> Result<Telling, Refusal>
         ensures { (telling_answer result, out.new) ≡ reading_out (placed_point self.now) out.old }
     {
-        let fields = match (&self.forced, &self.normal) {
-            (Some(forced), _) => deliver(forced.fields(), out)?,
-            (None, Some(normal)) => deliver(normal.fields(), out)?,
-            (None, None) => 0,
+        let fields = match self.told() {
+            Some(reading) => deliver(reading, out)?,
+            None => 0,
         };
         Ok(Telling {
             number: self.number,
@@ -96,10 +104,7 @@ impl Placed {
     pub fn send<B: Book>(&self, book: &B, out: &mut [u8]) -> Result<usize, Refusal>
         ensures { (answer result, out.new) ≡ sending_out (B.Book.types book.now) (placed_point self.now) out.old }
     {
-        match (&self.forced, &self.normal) {
-            (Some(forced), _) => book.write(self.number, forced.fields(), out),
-            (None, Some(normal)) => book.write(self.number, normal.fields(), out),
-            (None, None) => Err(Refusal::Silent),
-        }
+        let reading = self.told().ok_or(Refusal::Silent)?;
+        book.write(self.number, reading, out)
     }
 }

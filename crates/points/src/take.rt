@@ -1,4 +1,5 @@
 // Readings that a point takes.
+// A struct of the book and the number is no plainer: a point keeps its number, and is lent the book for one call.
 ghost use Rattle.std.specs.Prelude.{◌≡◌};
 ghost use Rattle.model.specs.Calls.{understood, accepted};
 ghost use Rattle.points.specs.Model.{taken_reading};
@@ -12,22 +13,16 @@ use listing::reading::Reading;
 pub fn understand<B: Book>(book: &B, number: TypeNumber, payload: &[u8]) -> Result<Reading, Refusal>
     ensures { taken_reading result ≡ understood (B.Book.types book.now number) payload.now }
 {
-    let mut places = [0; 16];
-    let count = book.read(number, payload, &mut places)?;
-    match Reading::new(&places[0..count]) {
-        Some(reading) => Ok(reading),
-        None => unreachable(),
-    }
+    let mut reading = Reading::from([0; 16]);
+    let fields = book.read(number, payload, &mut reading)?;
+    reading.truncate(fields);
+    Ok(reading)
 }
 
 // A reading that the type accepts as it is: one that has a proper payload.
 pub fn accept<B: Book>(book: &B, number: TypeNumber, reading: &[i64]) -> Result<Reading, Refusal>
     ensures { taken_reading result ≡ accepted (B.Book.types book.now number) reading.now }
 {
-    let mut scratch = [0; 14];
-    book.write(number, reading, &mut scratch)?;
-    match Reading::new(reading) {
-        Some(reading) => Ok(reading),
-        None => unreachable(),
-    }
+    book.write(number, reading, &mut [0; 14])?;
+    Ok(Reading::try_from(reading).unwrap())
 }

@@ -5,5 +5,5 @@ use Rattle.listing.proofs.read.read_line.Goals as goal
 
 pub returns : goal.returns
 returns c =
-    let read = c.line_at.ensures ∙ said_row _ in
-    record { line = read; onward = onward c.args.text.now c.args.at _ read; law = reads_just_what_it_shows }
+    let read = c.read_said.ensures ∙ said_row _ in
+    record { line = read; onward = onward c.args.text.now _ read; law = reads_just_what_it_shows }

@@ -1,7 +1,6 @@
-use Rattle.std.proofs.Common.{leb, length, refl, arith}
+use Rattle.std.proofs.Common.{refl}
 use Rattle.std.proofs.lemmas.Result.{err_from_is_err_and}
-use Rattle.std.proofs.lemmas.Bool.{leb-false}
-use Rattle.points.proofs.Readings.{as_accepted, written_few, kept_none}
+use Rattle.points.proofs.Readings.{as_accepted}
 use Rattle.points.proofs.take.accept.Goals as goal
 
 pub returns-in_err-write : goal.returns-in_err-write
@@ -9,10 +8,3 @@ returns-in_err-write g c =
     let p = err_from_is_err_and c.from_residual.result c.from_residual.ensures.1 in
     let law = g.met.B.Book.lawful c.args.book.now c.args.number in
     rw (p.1, p.2) (as_accepted _ law c.args.reading.now _ _ _ refl c.in_err-write.ensures)
-
-pub unreachable-requires : goal.unreachable-requires
-unreachable-requires g c =
-    let law = g.met.B.Book.lawful c.args.book.now c.args.number in
-    let xs = c.args.reading.now in
-    let few = written_few _ law xs _ _ _ refl c.in_ok-write.ensures in
-    omega (arith, few, leb-false (length xs) 16 (kept_none (leb (length xs) 16) xs c.in-None.ensures))

@@ -1,22 +1,17 @@
-use Rattle.std.proofs.Common.{◌≡◌, ℕ, ◌-◌, ◌<◌, take, Ok, refl, ap, ◌∙◌, arith}
-use Rattle.std.proofs.ByRecursion.{All-from_get_or}
+use Rattle.std.proofs.Common.{◌≡◌, length, rules}
 use Rattle.std.proofs.lemmas.Result.{err_from_is_err_and}
-use Rattle.points.proofs.Readings.{as_understood, kept_all}
+use Rattle.arrayvec.specs.ArrayVec.{array_vec_len}
+use Rattle.points.proofs.Readings.{as_understood, over}
 use Rattle.points.proofs.take.understand.Goals as goal
 
-pub returns-in_err-count : goal.returns-in_err-count
-returns-in_err-count g c =
+pub returns-in_err-fields : goal.returns-in_err-fields
+returns-in_err-fields g c =
     let p = err_from_is_err_and c.from_residual.result c.from_residual.ensures.1 in
     let law = g.met.B.Book.lawful c.args.book.now c.args.number in
-    let made = All-from_get_or (λ b. b < 256) c.args.payload.now 0 (λ i h. (c.type_inv.payload i).fits) in
-    rw (p.1, p.2) (as_understood _ law c.args.payload.now made _ _ _ refl c.in_err-count.ensures)
+    rw (p.1, p.2) (as_understood _ law c.args.payload.now (λ i. (c.type_inv.payload i).fits) c.deref_mut.result.now _ _ (search rules) c.in_err-fields.ensures)
 
 pub returns : goal.returns
 returns g c =
     let law = g.met.B.Book.lawful c.args.book.now c.args.number in
-    let made = All-from_get_or (λ b. b < 256) c.args.payload.now 0 (λ i h. (c.type_inv.payload i).fits) in
-    let n = c.in_ok-count.count in
-    let whole : n - 0 ≡ n = omega arith in
-    ap Ok (kept_all _ _ _ c.in-Some.ensures)
-    ∙ ap (λ (k : ℕ). Ok (take k c.read.new.out)) whole
-    ∙ as_understood _ law c.args.payload.now made _ _ _ refl c.in_ok-count.ensures
+    let full : array_vec_len c.from-reading.result ≡ length c.read.new.out = search rules in
+    rw (c.truncate.ensures.items, over _ _ _ _ full) (as_understood _ law c.args.payload.now (λ i. (c.type_inv.payload i).fits) c.deref_mut.result.now _ _ (search rules) c.in_ok-fields.ensures)

@@ -1,10 +1,8 @@
-use Rattle.std.proofs.Common.{refl}
-use Rattle.model.specs.Points.{empty}
 use Rattle.model.proofs.Proved.{list_theorem, soundness}
 use Rattle.board.proofs.board.Board.new.Goals as goal
 
-pub returns : goal.returns
-unfolding empty
-returns g c =
-    let law = g.met.B.Book.lawful c.args.book in
-    record { book = refl; points = refl; lists = list_theorem _ law; sound = soundness _ law }
+pub returns-clause-lists : goal.returns-clause-lists
+returns-clause-lists g c = list_theorem _ (g.met.B.Book.lawful c.args.book)
+
+pub returns-clause-sound : goal.returns-clause-sound
+returns-clause-sound g c = soundness _ (g.met.B.Book.lawful c.args.book)

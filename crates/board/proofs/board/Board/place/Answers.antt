@@ -1,11 +1,10 @@
-use Rattle.std.proofs.Common.{◌<◌, length, sym, refl, rules}
-use Rattle.board.proofs.Tables.{changed_at, index_low}
+use Rattle.std.proofs.Common.{None, ap, rules, arith}
+use Rattle.model.specs.Calls.{placing}
+use Rattle.board.specs.Board.{with_points}
+use Rattle.board.proofs.Tables.{changed_at}
 use Rattle.board.proofs.board.Board.place.Goals as goal
 
 pub returns : goal.returns
 returns g c =
-    let points = c.args.self.now.points in
-    let found = sym c.in_ok-at.ensures in
-    let low = index_low c.args.point c.in_ok-at.at found in
-    let within : c.in_ok-at.at < length points = search rules in
-    record { book = refl; step = changed_at points c.args.point c.in_ok-at.at c.index-self-at.result found within _ _ _ c.place.ensures }
+    let f = placing (g.B.Book.types c.self.inside.book) c.args.number in
+    rw (← c.self.view_is) (ap (with_points c.self.inside.book) (changed_at c.self.inside.points c.args.point _ c.index-self-at.result None _ f _ c.in_ok-at.ensures (search rules) (grind arith) (grind arith)))
