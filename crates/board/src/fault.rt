@@ -6,21 +6,21 @@ ghost use Rattle.board.specs.Faults.{cause_number, cause_of};
 use datapoint::refusal::Refusal;
 use listing::line::TooMany;
 
-// What is wrong with a line.
+// What is wrong with a line, with the number under which it is listed.
 #[derive(Clone, Copy, PartialEq, Eq, Debug)]
 pub enum Cause {
     // The point is not 1 to 48.
-    NoSuchPoint,
+    NoSuchPoint = 1,
     // The point is not above that of the line before.
-    NotAbove,
+    NotAbove = 2,
     // The book has no type of that number.
-    UnknownType,
+    UnknownType = 4,
     // A reading has another number of fields than its type.
-    WrongLength,
+    WrongLength = 8,
     // A reading is not legal in its type.
-    IllegalReading,
+    IllegalReading = 10,
     // The line breaks the form.
-    BrokenLine,
+    BrokenLine = 12,
 }
 
 impl Cause {
@@ -28,14 +28,7 @@ impl Cause {
     pub fn number(self) -> u8
         ensures { result ≡ cause_number self }
     {
-        match self {
-            Cause::NoSuchPoint => 1,
-            Cause::NotAbove => 2,
-            Cause::UnknownType => 4,
-            Cause::WrongLength => 8,
-            Cause::IllegalReading => 10,
-            Cause::BrokenLine => 12,
-        }
+        self as u8
     }
 }
 

@@ -10,7 +10,7 @@ use datapoint::refusal::Refusal;
 use either::{Either, Left, Right, for_both};
 
 // A type of the first book or of the second: the kit's `Either`, wrapped so that it can be a datapoint type here.
-#[derive(Clone, Copy, Debug)]
+#[derive(Clone, Copy, PartialEq, Eq, Debug)]
 pub struct BoundType<A, B>(pub Either<A, B>);
 
 impl<A: DatapointType, B: DatapointType> DatapointType for BoundType<A, B> {
@@ -32,7 +32,7 @@ impl<A: DatapointType, B: DatapointType> DatapointType for BoundType<A, B> {
 }
 
 // Has the first book's type where there is one, and otherwise the second one's.
-#[derive(Clone, Copy, Debug)]
+#[derive(Clone, Copy, PartialEq, Eq, Debug)]
 pub struct Bound<A, B> {
     pub first: A,
     pub second: B,

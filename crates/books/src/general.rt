@@ -34,7 +34,7 @@ const COLOUR: Joined<Whole, Joined<Whole, Whole>> = Joined {
     },
 };
 
-#[derive(Clone, Copy)]
+#[derive(Clone, Copy, PartialEq, Eq, Debug)]
 pub struct GeneralBook;
 
 impl Book for GeneralBook {

@@ -11,7 +11,7 @@ use book::number::TypeNumber;
 use joined::join::Joined;
 use octet::range::UpTo;
 
-#[derive(Clone, Copy)]
+#[derive(Clone, Copy, PartialEq, Eq, Debug)]
 pub struct HeatingBook;
 
 impl Book for HeatingBook {

@@ -19,7 +19,7 @@ use text::text::Text;
 use whole::whole::Whole;
 
 // One of the types that the books have.
-#[derive(Clone, Copy)]
+#[derive(Clone, Copy, PartialEq, Eq, Debug)]
 pub enum StandardType {
     UpTo(UpTo),
     Controlled(Controlled),

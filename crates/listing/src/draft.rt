@@ -24,7 +24,7 @@ impl Sheet<768> {
         draft
     }
 
-    // What is said of a faulty line.
+    // What is said of a faulty line. A cause is the number that is printed: the causes are the board's, which stands on this.
     pub fn fault(line: u64, cause: u8) -> Draft
         ensures { result ≡ show_fault line cause }
     {

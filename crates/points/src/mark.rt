@@ -4,16 +4,16 @@ ghost use Rattle.points.specs.Marks.{mark_number, permitted};
 
 use datapoint::refusal::Refusal;
 
-// Whether a placed point tells nothing, its normal reading or its forced reading.
+// Whether a placed point tells nothing, its normal reading or its forced reading, with the number under which that is listed.
 #[derive(Clone, Copy, PartialEq, Eq, Debug)]
 pub enum Mark {
-    Silent,
-    Normal,
-    Forced,
+    Silent = 0,
+    Normal = 1,
+    Forced = 2,
 }
 
 // The calls that a placed point takes or refuses for what it tells.
-#[derive(Clone, Copy)]
+#[derive(Clone, Copy, PartialEq, Eq, Debug)]
 pub enum Call {
     Receive,
     Set,
@@ -25,11 +25,7 @@ impl Mark {
     pub fn number(self) -> u8
         ensures { result ≡ mark_number self }
     {
-        match self {
-            Mark::Silent => 0,
-            Mark::Normal => 1,
-            Mark::Forced => 2,
-        }
+        self as u8
     }
 
     // Whether a point that tells this takes the call.

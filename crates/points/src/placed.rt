@@ -16,7 +16,7 @@ use datapoint::refusal::Refusal;
 use listing::reading::Reading;
 
 // Its type number, perhaps a normal reading and perhaps a forced reading.
-#[derive(Drop)]
+#[derive(PartialEq, Eq, Debug, Drop)]
 pub struct Placed {
     pub number: TypeNumber,
     pub normal: Option<Reading>,
@@ -24,7 +24,7 @@ pub struct Placed {
 }
 
 // What a read answers: the type number, the mark and the count of fields written.
-#[derive(Clone, Copy)]
+#[derive(Clone, Copy, PartialEq, Eq, Debug)]
 pub struct Telling {
     pub number: TypeNumber,
     pub mark: Mark,
