@@ -75,6 +75,7 @@ impl<A: DatapointType, B: DatapointType> Joined<A, B> {
         if items.len() != due {
             return Err(Refusal::WrongLength { due });
         }
+        // A test: by `ok_or(..)?` the proof that the refusal leaves `out` as it was didn't close.
         if self.sums().is_none() {
             return Err(D::REFUSAL);
         }

@@ -79,7 +79,7 @@ impl Voids {
     }
 }
 
-// The workday of its fields.
+// The workday of its fields, by patterns: with two numbers and `?` the check of the flags' reading hit its limit.
 fn workday_of(fields: &[i64]) -> Option<Option<bool>>
     ensures { result ≡ workday_of fields.now }
 {
