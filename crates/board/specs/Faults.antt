@@ -34,4 +34,5 @@ abbrev pub cause_of : Refusal → Cause
 cause_of refused.NoSuchPoint = NoSuchPoint
 cause_of (refused.WrongLength due) = WrongLength
 cause_of refused.IllegalReading = IllegalReading
+cause_of refused.BrokenLine = BrokenLine
 cause_of _ = UnknownType

@@ -1,5 +1,5 @@
 // The board.
-ghost use Rattle.std.specs.Prelude.{◌≡◌};
+ghost use Rattle.std.specs.Prelude.{◌≡◌, length};
 ghost use Rattle.datapoint.specs.Refusals.{answer};
 ghost use Rattle.model.specs.Points.{empty};
 ghost use Rattle.model.specs.Calls.{at_point, look_at, placing, removing, receiving, setting, overriding, releasing, reading_out, sending_out, listing_out};
@@ -128,7 +128,8 @@ impl<B: Book> Board<B> {
 
     // The board's list, into the front of `out`.
     pub fn list(&self, out: &mut [u8]) -> Result<usize, Refusal>
-        ensures { (answer result, out.new) ≡ listing_out self.now.points out.old }
+        ensures list { (answer result, out.new) ≡ listing_out self.now.points out.old }
+        ensures places { length self.now.points ≡ 48 }
     {
         deliver(lines(&self.points).text(), out)
     }

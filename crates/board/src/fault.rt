@@ -32,7 +32,7 @@ impl Cause {
     }
 }
 
-// A line is faulty for what its point, its type or a reading of it is refused.
+// Why a line is faulty, when its point, its type or a reading of it is refused.
 impl From<Refusal> for Cause {
     ghost from_gives = { λ refusal cause. cause ≡ cause_of refusal };
 
@@ -41,6 +41,7 @@ impl From<Refusal> for Cause {
             Refusal::NoSuchPoint => Cause::NoSuchPoint,
             Refusal::WrongLength { .. } => Cause::WrongLength,
             Refusal::IllegalReading => Cause::IllegalReading,
+            Refusal::BrokenLine => Cause::BrokenLine,
             _ => Cause::UnknownType,
         }
     }

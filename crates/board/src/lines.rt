@@ -1,5 +1,5 @@
 // The lines of a board.
-ghost use Rattle.std.specs.Prelude.{◌≡◌};
+ghost use Rattle.std.specs.Prelude.{◌≡◌, length};
 ghost use Rattle.model.specs.Points.{list_of};
 ghost use Rattle.board.specs.Table.{points_of};
 
@@ -9,7 +9,8 @@ use listing::page::Page;
 
 // A page with the line of each placed point, in rising order.
 pub fn lines(points: &Table) -> Page
-    ensures { result ≡ list_of (points_of points.now) }
+    ensures list { result ≡ list_of (points_of points.now) }
+    ensures places { length points.now ≡ 48 }
 {
     let mut page = Page::new();
     for (point, place) in (1..).zip(points) {

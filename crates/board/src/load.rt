@@ -79,7 +79,7 @@ pub fn read_table<B: Book>(book: &B, text: &[u8]) -> Result<Table, Fault>
     let mut rest = text;
     let mut last = 0;
     let mut line = 1;
-    // An iterator over the lines is no plainer: it would keep the rest of the text as this loop does, and end with it.
+    // An iterator over the lines is no plainer: its `next` would keep the rest of the text and the last point, as this loop does.
     while !rest.is_empty() {
         let (point, placed, next) = read_point(book, last, rest).map_err(|cause| Fault {
             line,

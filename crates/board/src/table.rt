@@ -46,7 +46,7 @@ pub fn at_placed<F: FnOnce(&mut Placed) -> Result<usize, Refusal>>(
     ensures { StepsAt point (FnOnceReturnsAtMut F.FnOnce step) points.old result points.new }
 {
     let at = index(point)?;
-    // A match: the borrow checker makes no proof of `as_mut()` with `?` at a place of an array.
+    // A match: `points[at].as_mut().ok_or(..)?` is not covered by the borrow checker.
     match &mut points[at] {
         Some(placed) => step(placed),
         None => Err(Refusal::NotPlaced),

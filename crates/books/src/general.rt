@@ -17,20 +17,14 @@ use octet::control::Controlled;
 use octet::scene::{Flag, FlaggedScene};
 use octet::step::Stepped;
 use text::text::Text;
-use whole::whole::{Sign, Whole, Width};
-
-// A count of one octet, 5.010.
-const COUNT: Whole = Whole {
-    width: Width::One,
-    sign: Sign::Unsigned,
-};
+use whole::whole::Whole;
 
 // Red, green and blue, 232.600.
 const COLOUR: Joined<Whole, Joined<Whole, Whole>> = Joined {
-    first: COUNT,
+    first: Whole::U8,
     second: Joined {
-        first: COUNT,
-        second: COUNT,
+        first: Whole::U8,
+        second: Whole::U8,
     },
 };
 
@@ -51,20 +45,20 @@ impl Book for GeneralBook {
             (3, 7..=8) => StandardType::Stepped(Stepped),
             (4, 1) => up_to(127),
             (4, 2) => up_to(255),
-            (5, sub @ 1..=4) if sub != 2 => whole(Width::One, Sign::Unsigned),
-            (5, 10) => whole(Width::One, Sign::Unsigned),
-            (6, 1 | 10) => whole(Width::One, Sign::TwosComplement),
-            (7, 1) => whole(Width::Two, Sign::Unsigned),
-            (8, 1) => whole(Width::Two, Sign::TwosComplement),
+            (5, sub @ 1..=4) if sub != 2 => StandardType::Whole(Whole::U8),
+            (5, 10) => StandardType::Whole(Whole::U8),
+            (6, 1 | 10) => StandardType::Whole(Whole::I8),
+            (7, 1) => StandardType::Whole(Whole::U16),
+            (8, 1) => StandardType::Whole(Whole::I16),
             (9, 1) => StandardType::Float(Float::TEMPERATURE),
             (9, 2) => StandardType::Float(Float::DIFFERENCE),
             (9, 4..=7) => StandardType::Float(Float::no_less_than(0)),
             (10, 1) => StandardType::TimeOfDay(TimeOfDay),
             (11, 1) => StandardType::DateOnly(DateOnly),
-            (12, 1) => whole(Width::Four, Sign::Unsigned),
-            (13, 1) => whole(Width::Four, Sign::TwosComplement),
-            (16, 0) => StandardType::Text(Text { highest: 127 }),
-            (16, 1) => StandardType::Text(Text { highest: 255 }),
+            (12, 1) => StandardType::Whole(Whole::U32),
+            (13, 1) => StandardType::Whole(Whole::I32),
+            (16, 0) => StandardType::Text(Text::ASCII),
+            (16, 1) => StandardType::Text(Text::LATIN_1),
             (17, 1) => up_to(63),
             (18, 1) => StandardType::FlaggedScene(FlaggedScene { flag: Flag::Bit7 }),
             (19, 1) => StandardType::DateAndTime(DateAndTime),
@@ -76,11 +70,4 @@ impl Book for GeneralBook {
         };
         Some(found)
     }
-}
-
-// A whole number of that width.
-fn whole(width: Width, sign: Sign) -> StandardType
-    ensures { meaning_of result ≡ whole width sign }
-{
-    StandardType::Whole(Whole { width, sign })
 }

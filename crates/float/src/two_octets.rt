@@ -149,9 +149,9 @@ impl DatapointType for Float {
         let [value] = reading else {
             return Err(Refusal::WrongLength { due: 1 });
         };
-        match smallest(*value) {
-            Some((high, low)) if self.is_legal(*value, high, low) => deliver(&[high, low], out),
-            _ => Err(Refusal::IllegalReading),
-        }
+        let (high, low) = smallest(*value)
+            .filter(|(high, low)| self.is_legal(*value, *high, *low))
+            .ok_or(Refusal::IllegalReading)?;
+        deliver(&[high, low], out)
     }
 }

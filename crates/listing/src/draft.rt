@@ -35,7 +35,7 @@ impl Sheet<768> {
 }
 
 // The parts of a line, each behind its key and as far as there is room.
-// A `write!` may fail where no clause says so, and a line is always made.
+// No `write!`: it answers a `Result`, and a line is always made.
 impl<const CAP: usize> Sheet<CAP> {
     #[tactic(auto, using(crate::proofs::Written::pieces))]
     fn push_row(&mut self, line: &Line<&Reading>)

@@ -5,7 +5,7 @@ ghost use Rattle.listing.specs.Found.{found, passed};
 
 use crate::keys::{MINUS, ZERO};
 
-// The text behind `key`, where it begins with it.
+// The rest of the text behind `key`, where the text begins with that.
 pub fn pass<'a>(text: &'a [u8], key: &[u8]) -> Option<&'a [u8]>
     ensures { passed result ≡ read_literal key.now text.now }
 {

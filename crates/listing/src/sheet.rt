@@ -44,7 +44,7 @@ impl<const CAP: usize> Sheet<CAP> {
     pub(crate) fn push(&mut self, octets: &[u8])
         ensures { self.new ≡ take CAP (self.old ++ octets.now) }
     {
-        let _count = self.octets.write(octets);
+        let _written = self.octets.write(octets);
     }
 
     // Adds these octets, if there is room for all of them.

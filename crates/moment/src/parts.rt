@@ -1,4 +1,5 @@
 // A date and a time, parts of which may be void.
+// One function for all parts, as `voidable` of the definitions, was tried: the search gave up in `clock_of` and `of_fields`.
 ghost use Rattle.std.specs.Prelude.{◌≡◌};
 ghost use Rattle.moment.specs.Voidable.{years_of, year_told, month_day, weekday_of, clock_time, clock_of, date_in, date_of, time_in, time_of};
 

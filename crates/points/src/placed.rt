@@ -16,7 +16,7 @@ use datapoint::refusal::Refusal;
 use listing::reading::Reading;
 
 // Its type number, perhaps a normal reading and perhaps a forced reading.
-#[derive(PartialEq, Eq, Debug, Drop)]
+#[derive(Clone, PartialEq, Eq, Debug, Drop)]
 pub struct Placed {
     pub number: TypeNumber,
     pub normal: Option<Reading>,

@@ -14,7 +14,7 @@ pub fn visit(rt: &HostRuntime) -> io::Result<()> {
     clock.show(rt, &[0x6E, 0x1E, 0x05])?;
     let plate = Exhibit {
         number: NAME,
-        datapoint_type: Text { highest: 127 },
+        datapoint_type: Text::ASCII,
     };
     println!(rt; "The name plate says AB. What stands behind the end of a text is not told.")?;
     plate.show(rt, &[0x41, 0x42, 0x00, 0x43, 0, 0, 0, 0, 0, 0, 0, 0, 0, 0])

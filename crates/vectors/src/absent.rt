@@ -68,8 +68,7 @@ static ABSENT: [(u16, u16); 57] = [
 ];
 
 // Whether the book has no type of that number.
-fn is_absent<B: Book>(heap: Global, book: &B, number: TypeNumber) -> Result<bool, AllocError> {
-    let entry = Entry { book, number };
+fn is_absent<B: Book>(heap: Global, entry: &Entry<'_, B>) -> Result<bool, AllocError> {
     let refusal = Refusal::UnknownType;
     let came = entry.call(heap, &[0u8], ROOM)?;
     let out = entry.call(heap, &[0i64], ROOM)?;
@@ -84,7 +83,19 @@ pub fn run_absent<A: Book, B: Book>(first: &A, second: &B, report: &mut Report) 
         let heap = report.heap();
         report.row(
             format_args!("{number}  no type  refused with {due}"),
-            is_absent(heap, first, number)? && is_absent(heap, second, number)?,
+            is_absent(
+                heap,
+                &Entry {
+                    book: first,
+                    number,
+                },
+            )? && is_absent(
+                heap,
+                &Entry {
+                    book: second,
+                    number,
+                },
+            )?,
             "    has a type",
         )?;
     }

@@ -11,12 +11,9 @@ pub struct Came<T> {
 impl<T: Item> Came<T> {
     // Whether the items came, at the front of a buffer that keeps its rest.
     pub fn is(&self, items: &[T]) -> bool {
-        match self.answer {
-            Ok(count) => count == items.len()
-                && self.out.starts_with(items)
-                && self.is_blank_from(count),
-            Err(_) => false,
-        }
+        self.answer == Ok(items.len())
+            && self.out.starts_with(items)
+            && self.is_blank_from(items.len())
     }
 
     // Whether that refusal came, with the buffer as it was.

@@ -77,7 +77,7 @@ impl Whole {
     fn span(self) -> i64
         ensures { result ≡ pos (256 ^ count self.width) }
     {
-        256_i64.pow(self.width.octets() as u32)
+        256_i64.pow(self.width as u32)
     }
 
     // The numbers from this one on stand for negative values.
