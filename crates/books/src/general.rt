@@ -1,8 +1,5 @@
 // The general book (KNX Standard, Datapoint Types, 02.02.01).
-ghost use Rattle.std.specs.Prelude.{◌≡◌};
-ghost use Rattle.whole.specs.Whole.{whole};
 ghost use Rattle.books.specs.General.{general};
-ghost use Rattle.books.specs.Standard.{meaning_of};
 ghost use Rattle.books.specs.Laws.{general_lawful};
 
 use crate::standard::{StandardType, up_to};
