@@ -76,7 +76,7 @@ impl<B: Book> Board<B> {
         Ok(0)
     }
 
-    // A payload's reading becomes the normal reading.
+    // A payload's reading becomes the normal reading. This, `set`, `force` and `release` only name their step.
     pub fn receive(&mut self, point: usize, payload: &[u8]) -> Result<usize, Refusal>
         ensures { (answer result, self.new) ≡ on_points (at_point point (receiving (B.Book.types self.old.book) payload.now)) self.old }
     {

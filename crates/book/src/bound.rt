@@ -46,6 +46,7 @@ impl<A: Book, B: Book> Book for Bound<A, B> {
     ghost lawful = { λ s. bound_lawful (A.Book.lawful s.first) (B.Book.lawful s.second) };
 
     fn type_of(&self, number: TypeNumber) -> Option<BoundType<A::Type, B::Type>> {
+        // A match: no proof is generated of `map(Right)`, whose result names a type parameter.
         let found = match self.first.type_of(number) {
             Some(found) => Left(found),
             None => Right(self.second.type_of(number)?),

@@ -60,6 +60,7 @@ impl DatapointType for DateOnly {
             return Err(Refusal::IllegalReading);
         };
         let date = Date::of_fields(*day, *month, Some(year)).ok_or(Refusal::IllegalReading)?;
+        // Two digits: `try_from` would have an error that can't come.
         deliver(&[date.day(), date.month(), (year % 100) as u8], out)
     }
 }

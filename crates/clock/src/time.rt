@@ -45,6 +45,7 @@ impl DatapointType for TimeOfDay {
                 minute @ 0..=59,
                 second @ 0..=59,
             ] => {
+                // The pattern bounds the fields: `try_from` would have an error that can't come.
                 deliver(
                     &[
                         32 * (*weekday as u8) + *hour as u8,

@@ -109,6 +109,7 @@ fn packed(mantissa: i64, exponent: Exponent) -> (u8, u8)
     ensures { result ≡ packed mantissa exponent.power }
 {
     let sign = u8::from(mantissa < 0);
+    // From 0 to 2047: `try_from` would have an error that can't come.
     let fraction = (mantissa + 2048 * i64::from(sign)) as u16;
     let [high, low] = fraction.to_be_bytes();
     (128 * sign + 8 * exponent.power + high, low)

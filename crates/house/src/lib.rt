@@ -29,6 +29,7 @@ pub fn report<B: Book + Drop>(book: B, text: &[u8], out: &mut [u8]) -> Result<us
     let mut board = Board::new(book);
     match board.load(text) {
         Ok(_) => board.list(out),
+        // A count of lines fits 64 bits on every machine, for which there is no `From`.
         Err(Fault { line, cause }) => deliver(
             Draft::fault(line as u64, cause.number()).text(),
             out,

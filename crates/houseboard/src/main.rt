@@ -13,6 +13,7 @@ const LOOKED_AT: usize = LONGEST + 1;
 fn main(rt: HostRuntime) -> io::Result<()> {
     let mut text = ArrayVec::<u8, LOOKED_AT>::new();
     io::copy(&mut rt.stdin().take(LOOKED_AT as u64), &mut text)?;
+    // Lent to the call, which answers how much of it is filled.
     let mut out = [0; LONGEST];
     if let Ok(count) = report(house_books(), &text, &mut out) {
         rt.stdout().write_all(&out[..count])?;

@@ -36,6 +36,7 @@ fn read_digits(mut text: &[u8], limit: u32) -> Option<(u32, &[u8])>
         }
         text = rest;
     }
+    // At most the limit: `try_from` would have an error that can't come.
     Some((n as u32, text))
 }
 
@@ -56,6 +57,7 @@ pub fn read_u16(text: &[u8]) -> Option<(u16, &[u8])>
     ensures { found result ≡ read_whole 65535 text.now }
 {
     let (n, rest) = read_whole(text, 65_535)?;
+    // At most 65,535: `try_from` would have an error that can't come.
     Some((n as u16, rest))
 }
 

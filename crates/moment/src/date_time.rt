@@ -22,6 +22,7 @@ impl DatapointType for DateAndTime {
         }
     }
 
+    // Read and write are a few lines over other parts each: one function for both would take those as parameters.
     fn read(&self, payload: &[u8], out: &mut [i64]) -> Result<usize, Refusal> {
         if payload.len() != 8 {
             return Err(Refusal::WrongLength { due: 8 });

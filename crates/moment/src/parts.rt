@@ -29,6 +29,7 @@ fn years_of(void: bool, year: i64) -> Option<Option<u8>>
 {
     match (void, year) {
         (true, 0) => Some(None),
+        // The pattern bounds it: `try_from` would have an error that can't come.
         (false, 1900..=2155) => Some(Some((year - 1900) as u8)),
         _ => None,
     }
@@ -65,6 +66,7 @@ fn weekday_of(void: bool, weekday: i64) -> Option<Option<u8>>
 {
     match (void, weekday) {
         (true, 0) => Some(None),
+        // The pattern bounds it: `try_from` would have an error that can't come.
         (false, 0..=7) => Some(Some(weekday as u8)),
         _ => None,
     }

@@ -35,6 +35,7 @@ impl DatapointType for UpTo {
 
     fn write(&self, reading: &[i64], out: &mut [u8]) -> Result<usize, Refusal> {
         match reading {
+            // The pattern bounds the fields: `try_from` would have an error that can't come.
             [value @ 0..] if *value <= i64::from(self.highest) => deliver(&[*value as u8], out),
             [_] => Err(Refusal::IllegalReading),
             _ => Err(Refusal::WrongLength { due: 1 }),

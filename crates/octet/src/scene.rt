@@ -57,6 +57,7 @@ impl DatapointType for FlaggedScene {
     fn write(&self, reading: &[i64], out: &mut [u8]) -> Result<usize, Refusal> {
         let weight = self.flag.weight();
         match reading {
+            // The pattern bounds the fields: `try_from` would have an error that can't come.
             [0, scene @ 0..=63] => deliver(&[*scene as u8], out),
             [1, scene @ 0..=63] => deliver(&[weight + (*scene as u8)], out),
             [_, _] => Err(Refusal::IllegalReading),

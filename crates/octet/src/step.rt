@@ -32,6 +32,7 @@ impl DatapointType for Stepped {
 
     fn write(&self, reading: &[i64], out: &mut [u8]) -> Result<usize, Refusal> {
         match reading {
+            // The pattern bounds the fields: `try_from` would have an error that can't come.
             [0, code @ 0..=7] => deliver(&[*code as u8], out),
             [1, code @ 1..=7] => deliver(&[(8 + *code) as u8], out),
             [_, _] => Err(Refusal::IllegalReading),

@@ -44,6 +44,7 @@ impl Placed {
     }
 
     // A payload's reading becomes the normal reading.
+    // This and `set` differ in the call that they name and in what they take: one function would take both.
     pub fn receive<B: Book>(&mut self, book: &B, payload: &[u8]) -> Result<usize, Refusal>
         ensures { (answer result, placed_point self.new) ≡ receiving (B.Book.types book.now) payload.now (placed_point self.old) }
     {

@@ -10,6 +10,7 @@ use std::io;
 fn show<B: Book>(rt: &HostRuntime, book: &B, number: TypeNumber, payload: &[u8]) -> io::Result<()> {
     let given = Octets(payload);
     print!(rt; "   As {number}, {given} ")?;
+    // Lent to the call, which answers how much of it is filled.
     let mut reading = [0; 16];
     match book.read(number, payload, &mut reading) {
         Ok(count) => println!(rt; "gives {}.", Fields(&reading[..count])),

@@ -22,6 +22,7 @@ fn step(rt: &HostRuntime, what: &str, answer: Result<usize, Refusal>) -> io::Res
 
 // Prints what a point tells.
 fn told<B: Book>(rt: &HostRuntime, board: &Board<B>, point: usize) -> io::Result<()> {
+    // Lent to the call, which answers how much of it is filled.
     let mut reading = [0; 16];
     if let Ok(telling) = board.read(point, &mut reading) {
         let mark = telling.mark;
@@ -40,7 +41,7 @@ fn listed<B: Book>(rt: &HostRuntime, board: &Board<B>) -> io::Result<ArrayVec<u8
     Ok(text)
 }
 
-// Points are placed, the dial's octets received, and a point forced.
+// Points are placed, the dial's octets received, and a point forced: each step in its own words.
 fn fill<B: Book>(rt: &HostRuntime, panel: &mut Board<B>) -> io::Result<()> {
     println!(rt; "The panel's board is empty. Two points are placed: 3 is the dial, 7 a lamp.")?;
     step(rt, "Place 3 as 9.001", panel.place(3, TEMPERATURE))?;

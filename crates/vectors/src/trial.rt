@@ -162,6 +162,7 @@ impl<'a, B: Book> Trial<'a, B> {
 
     // What comes of the reading with each of its fields in turn, and then all, made extreme: the first that is not refused.
     fn with_extremes(&self, reading: &[i64], extreme: i64) -> io::Result<Came<u8>> {
+        // The place is what this is over: each field in turn is replaced.
         for place in 0..reading.len() {
             let mut fields = reading.to_vec(self.report.heap())?;
             fields[place] = extreme;

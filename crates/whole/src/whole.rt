@@ -109,6 +109,7 @@ impl Whole {
         let span = self.span();
         let from = self.negative_from();
         match value {
+            // The guards bound it: `try_from` would have an error that can't come.
             0.. if value < from => Some(value as u32),
             ..0 if value >= from - span => Some((value + span) as u32),
             _ => None,
