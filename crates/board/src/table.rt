@@ -37,7 +37,7 @@ pub fn placed(points: &Table, point: usize) -> Result<&Placed, Refusal>
 }
 
 // Takes a step at the placed point of that number.
-pub fn at_placed<F: FnOnce(&mut Placed) -> Result<usize, Refusal>>(
+pub(crate) fn at_placed<F: FnOnce(&mut Placed) -> Result<usize, Refusal>>(
     points: &mut Table,
     point: usize,
     step: F,
