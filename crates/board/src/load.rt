@@ -27,6 +27,7 @@ fn accept_value<B: Book>(
 ) -> Result<Option<Reading>, Cause>
     ensures { cause_answer fields_in result ≡ number_only (accepted_held (B.Book.types book.now number) (held_of value)) }
 {
+    // `map(..).transpose()` over a closure with two `?` is no plainer.
     let Some(reading) = value else {
         return Ok(None);
     };

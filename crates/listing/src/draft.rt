@@ -35,7 +35,7 @@ impl Sheet<768> {
 }
 
 // The parts of a line, each behind its key and as far as there is room.
-// No `write!`: it answers a `Result`, and a line is always made.
+// No `write!`: it answers a `Result`, and a line is always made. Each clause says its own text, so a name for them all is no plainer.
 impl<const CAP: usize> Sheet<CAP> {
     #[tactic(auto, using(crate::proofs::Written::pieces))]
     fn push_row(&mut self, line: &Line<&Reading>)

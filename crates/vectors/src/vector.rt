@@ -20,7 +20,7 @@ pub struct Page {
     pub vectors: &'static [Vector],
 }
 
-// A type with a proper payload and its reading, for calls of other lengths.
+// A type with a proper payload and its reading, for calls of other lengths. As two numbers a row of the table is shorter.
 pub struct Shape {
     pub main: u16,
     pub sub: u16,
