@@ -41,30 +41,18 @@ fn bare(answer: Result<usize, Refusal>) -> Came {
     }
 }
 
-fn read<B: Book>(board: &Board<B>, point: usize, room: usize) -> Came {
-    let mut out = [BLANK_FIELD; ROOM];
-    let answer = board.read(point, &mut out[..room.min(ROOM)]);
-    Came {
-        answer: answer.map(|telling| telling.fields),
-        untouched: out == [BLANK_FIELD; ROOM],
-    }
-}
-
-fn send<B: Book>(board: &Board<B>, point: usize, room: usize) -> Came {
-    let mut out = [BLANK_OCTET; ROOM];
-    let answer = board.send(point, &mut out[..room.min(ROOM)]);
+// A call that is lent a buffer, whose places all hold the blank.
+fn lent<T: Copy + PartialEq, F: FnOnce(&mut [T]) -> Result<usize, Refusal>>(
+    blank: T,
+    out: &mut [T],
+    call: F,
+) -> Came
+    requires { F.IsAlwaysCallable call }
+{
+    let answer = call(out);
     Came {
         answer,
-        untouched: out == [BLANK_OCTET; ROOM],
-    }
-}
-
-fn list<B: Book>(board: &Board<B>, room: usize) -> Came {
-    let mut out = [BLANK_OCTET; ROOM];
-    let answer = board.list(&mut out[..room.min(ROOM)]);
-    Came {
-        answer,
-        untouched: out == [BLANK_OCTET; ROOM],
+        untouched: out.iter().all(|place| *place == blank),
     }
 }
 
@@ -76,8 +64,20 @@ pub fn make<B: Book>(board: &mut Board<B>, call: &Call) -> Came {
         Call::Set(point, reading) => bare(board.set(point, reading)),
         Call::Force(point, reading) => bare(board.force(point, reading)),
         Call::Release(point) => bare(board.release(point)),
-        Call::Read(point, room) => read(board, point, room),
-        Call::Send(point, room) => send(board, point, room),
-        Call::List(room) => list(board, room),
+        Call::Read(point, room) => {
+            let mut out = [BLANK_FIELD; ROOM];
+            let out = &mut out[..room.min(ROOM)];
+            lent(BLANK_FIELD, out, |out| Ok(board.read(point, out)?.fields))
+        }
+        Call::Send(point, room) => {
+            let mut out = [BLANK_OCTET; ROOM];
+            let out = &mut out[..room.min(ROOM)];
+            lent(BLANK_OCTET, out, |out| board.send(point, out))
+        }
+        Call::List(room) => {
+            let mut out = [BLANK_OCTET; ROOM];
+            let out = &mut out[..room.min(ROOM)];
+            lent(BLANK_OCTET, out, |out| board.list(out))
+        }
     }
 }
