@@ -4,6 +4,7 @@ ghost use Rattle.book.specs.Lawful.{bound_lawful, either_lawful};
 ghost use Rattle.book.specs.Types.{bound};
 
 use crate::book::Book;
+use crate::catalogue::Catalogue;
 use crate::number::TypeNumber;
 use datapoint::datapoint_type::{Counts, DatapointType};
 use datapoint::refusal::Refusal;
@@ -39,11 +40,34 @@ pub struct Bound<A, B> {
 }
 
 impl<A: Book, B: Book> Book for Bound<A, B> {
-    type Type = BoundType<A::Type, B::Type>;
-
     ghost types = { λ s. bound (A.Book.types s.first) (B.Book.types s.second) };
 
     ghost lawful = { λ s. bound_lawful (A.Book.lawful s.first) (B.Book.lawful s.second) };
+
+    fn counts(&self, number: TypeNumber) -> Result<Counts, Refusal> {
+        match self.first.counts(number) {
+            Err(Refusal::UnknownType) => self.second.counts(number),
+            found => found,
+        }
+    }
+
+    fn read(&self, number: TypeNumber, payload: &[u8], out: &mut [i64]) -> Result<usize, Refusal> {
+        match self.first.read(number, payload, out) {
+            Err(Refusal::UnknownType) => self.second.read(number, payload, out),
+            done => done,
+        }
+    }
+
+    fn write(&self, number: TypeNumber, reading: &[i64], out: &mut [u8]) -> Result<usize, Refusal> {
+        match self.first.write(number, reading, out) {
+            Err(Refusal::UnknownType) => self.second.write(number, reading, out),
+            done => done,
+        }
+    }
+}
+
+impl<A: Catalogue, B: Catalogue> Catalogue for Bound<A, B> {
+    type Type = BoundType<A::Type, B::Type>;
 
     fn type_of(&self, number: TypeNumber) -> Option<BoundType<A::Type, B::Type>> {
         // A match: no proof is generated of `map(Right)`, whose result names a type parameter.

@@ -3,4 +3,6 @@
 
 pub mod book;
 pub mod bound;
+pub mod catalogue;
+pub mod found;
 pub mod number;

@@ -4,9 +4,13 @@ ghost use Rattle.books.specs.Laws.{general_lawful};
 
 use crate::standard::{StandardType, up_to};
 use book::book::Book;
+use book::catalogue::Catalogue;
+use book::found::{counts_in, read_in, write_in};
 use book::number::TypeNumber;
 use clock::date::DateOnly;
 use clock::time::TimeOfDay;
+use datapoint::datapoint_type::Counts;
+use datapoint::refusal::Refusal;
 use float::two_octets::Float;
 use joined::join::Joined;
 use moment::date_time::DateAndTime;
@@ -29,11 +33,25 @@ const COLOUR: Joined<Whole, Joined<Whole, Whole>> = Joined {
 pub struct GeneralBook;
 
 impl Book for GeneralBook {
-    type Type = StandardType;
-
     ghost types = { λ _. general };
 
     ghost lawful = { λ s. general_lawful };
+
+    fn counts(&self, number: TypeNumber) -> Result<Counts, Refusal> {
+        counts_in(self.type_of(number))
+    }
+
+    fn read(&self, number: TypeNumber, payload: &[u8], out: &mut [i64]) -> Result<usize, Refusal> {
+        read_in(self.type_of(number), payload, out)
+    }
+
+    fn write(&self, number: TypeNumber, reading: &[i64], out: &mut [u8]) -> Result<usize, Refusal> {
+        write_in(self.type_of(number), reading, out)
+    }
+}
+
+impl Catalogue for GeneralBook {
+    type Type = StandardType;
 
     fn type_of(&self, number: TypeNumber) -> Option<StandardType> {
         let found = match (number.main, number.sub) {

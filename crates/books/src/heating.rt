@@ -7,7 +7,11 @@ ghost use Rattle.books.specs.Laws.{heating_lawful};
 
 use crate::standard::{StandardType, up_to};
 use book::book::Book;
+use book::catalogue::Catalogue;
+use book::found::{counts_in, read_in, write_in};
 use book::number::TypeNumber;
+use datapoint::datapoint_type::Counts;
+use datapoint::refusal::Refusal;
 use joined::join::Joined;
 use octet::range::UpTo;
 
@@ -15,11 +19,25 @@ use octet::range::UpTo;
 pub struct HeatingBook;
 
 impl Book for HeatingBook {
-    type Type = StandardType;
-
     ghost types = { λ _. heating };
 
     ghost lawful = { λ s. heating_lawful };
+
+    fn counts(&self, number: TypeNumber) -> Result<Counts, Refusal> {
+        counts_in(self.type_of(number))
+    }
+
+    fn read(&self, number: TypeNumber, payload: &[u8], out: &mut [i64]) -> Result<usize, Refusal> {
+        read_in(self.type_of(number), payload, out)
+    }
+
+    fn write(&self, number: TypeNumber, reading: &[i64], out: &mut [u8]) -> Result<usize, Refusal> {
+        write_in(self.type_of(number), reading, out)
+    }
+}
+
+impl Catalogue for HeatingBook {
+    type Type = StandardType;
 
     fn type_of(&self, number: TypeNumber) -> Option<StandardType> {
         let found = match (number.main, number.sub) {
