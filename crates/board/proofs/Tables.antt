@@ -1,6 +1,6 @@
 -- A point of the table that is looked at or changed. Assumes nothing.
-use Rattle.std.proofs.Common.{◌≡◌, ℕ, ◌-◌, ◌<◌, Bool, true, leb, List, length, replicate, get_or, set, None, Ok, Option, sym, ap, ◌∙◌, arith}
-use Rattle.std.proofs.lemmas.List.{map-set, get_or-map, ext_get_or, get_or-replicate}
+use Rattle.std.proofs.Common.{◌≡◌, ℕ, ◌-◌, ◌<◌, Bool, true, leb, List, length, get_or, set, Ok, Option, sym, arith}
+use Rattle.std.proofs.lemmas.List.{map-set, get_or-map}
 use Rattle.std.proofs.lemmas.Bool.{and_parts, leb-true}
 use Rattle.model.specs.Points.{Point, unplaced}
 use Rattle.model.specs.Calls.{Answer, at_point, on_board}
@@ -31,7 +31,3 @@ changed_at table p at d s t f a found full is e =
     let i = index_is (on_board p) p at (sym found) in
     let w = here table p at d found full in
     rw (i.0, w, is, ← e, ← i.1, map-set)
-
--- a table of nothing but unplaced points
-pub all_none : (table : List (Option Placed)) → length table ≡ 48 → ((i : ℕ) → i < 48 → get_or table i None ≡ None) → points_of table ≡ replicate 48 unplaced
-all_none table full none = ap points_of (ext_get_or None table (replicate 48 None) full (λ i within. let low : i < 48 = omega arith in none i low ∙ sym (get_or-replicate 48 i None None low)))

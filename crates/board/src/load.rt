@@ -31,7 +31,7 @@ fn accept_value<B: Book>(
     let Some(reading) = value else {
         return Ok(None);
     };
-    Ok(Some(accept(book, number, &reading?)?))
+    Ok(Some(accept(book, number, reading?.fields())?))
 }
 
 // What a line places.

@@ -6,7 +6,6 @@ ghost use Rattle.board.specs.Table.{points_of, indexed, seen, placed_in, StepsAt
 
 use datapoint::refusal::Refusal;
 use points::placed::Placed;
-use std::array;
 
 // The 48 places, the point 1 first.
 pub type Table = [Option<Placed>; 48];
@@ -15,7 +14,7 @@ pub type Table = [Option<Placed>; 48];
 pub fn unplaced() -> Table
     ensures { points_of result ≡ empty }
 {
-    array::from_fn(|_| None)
+    [None; 48]
 }
 
 // Where the point of that number stands in the table.

@@ -9,3 +9,5 @@ pub mod Lines
 pub mod Written
 pub mod Tails
 pub mod Room
+pub mod Kept
+pub mod Sheets

@@ -1,15 +1,15 @@
 -- The fields of a kept reading. Assumes nothing.
 use denote.Ref.{Bor}
-use Rattle.std.specs.Prelude.{List, [], ◌∷◌, ◌++◌, length, ℤ, Some, None, Option, option_copied, nat_le}
+use Rattle.std.specs.Prelude.{List, [], ◌∷◌, ◌++◌, length, take, ℤ, Some, None, Option, option_copied, nat_le}
 use Rattle.datapoint.specs.Shapes.{when}
 use Rattle.listing.specs.Row.{Row}
-use Rattle.arrayvec.specs.ArrayVec.{ArrayVec}
 use Rattle.listing.specs.declared.line.Line.{Line}
+use Rattle.listing.specs.declared.reading.Reading.{Reading}
 
-abbrev pub fields_of : ArrayVec ℤ → List ℤ
-fields_of r = r.items
+abbrev pub fields_of : Reading → List ℤ
+fields_of r = take r.count r.places
 
-abbrev pub fields_in : Option (ArrayVec ℤ) → Option (List ℤ)
+abbrev pub fields_in : Option Reading → Option (List ℤ)
 fields_in None = None
 fields_in (Some r) = Some (fields_of r)
 
@@ -22,5 +22,5 @@ lengthened None x = None
 lengthened (Some xs) x = kept (xs ++ (x ∷ []))
 
 -- the row of a line
-abbrev pub row_of : Line (Bor (ArrayVec ℤ)) → Row
+abbrev pub row_of : Line (Bor Reading) → Row
 row_of l = record { point = l.point; number = l.number; normal = fields_in (option_copied l.normal); forced = fields_in (option_copied l.forced) }

@@ -6,3 +6,4 @@ pub mod Found
 pub mod Fields
 pub mod Line
 pub mod Pages
+pub mod Zeros

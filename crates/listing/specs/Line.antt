@@ -1,9 +1,9 @@
 -- What a line says, as the code keeps it. Assumes nothing.
 use Rattle.std.specs.Prelude.{ℕ, List, ℤ, Some, None, Ok, Err, Option, Result}
-use Rattle.arrayvec.specs.ArrayVec.{ArrayVec}
 use Rattle.book.specs.declared.number.TypeNumber.{TypeNumber}
 use Rattle.listing.specs.declared.line.Line.{Line}
 use Rattle.listing.specs.declared.line.TooMany.{TooMany}
+use Rattle.listing.specs.declared.reading.Reading.{Reading}
 use Rattle.listing.specs.Row.{Row}
 use Rattle.listing.specs.Read.{Got, got, bad, ◌⨟◌, read_reading, read_placed, read_readings}
 use Rattle.listing.specs.Fields.{fields_of, kept}
@@ -16,7 +16,7 @@ pub data Held : Type 0 where
 
 -- a reading as the code keeps it, unless it has too many fields
 abbrev pub Kept : Type 0
-Kept = Result (ArrayVec ℤ) TooMany
+Kept = Result Reading TooMany
 
 -- the fields of a reading that could be kept
 abbrev pub kept_in : Kept → Option (List ℤ)

@@ -77,7 +77,7 @@ impl<const CAP: usize> Sheet<CAP> {
                 self.push(key);
                 self.push(NONE);
             }
-            Some(reading) => self.push_fields(key, reading.as_slice()),
+            Some(reading) => self.push_fields(key, reading.fields()),
         }
     }
 

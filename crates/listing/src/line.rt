@@ -10,7 +10,7 @@ pub struct TooMany;
 pub type Value = Option<Result<Reading, TooMany>>;
 
 // A point, its type number, and its normal and its forced reading, where it has them.
-#[derive(Clone, PartialEq, Eq, Debug, Drop)]
+#[derive(Clone, Copy, PartialEq, Eq, Debug)]
 pub struct Line<R> {
     pub point: u16,
     pub number: TypeNumber,

@@ -25,16 +25,14 @@ fn read_number(text: &[u8]) -> Option<(TypeNumber, &[u8])>
 fn longer(reading: Result<Reading, TooMany>, field: i64) -> Result<Reading, TooMany>
     ensures { kept_in result ≡ lengthened (kept_in reading) field }
 {
-    let mut reading = reading?;
-    reading.try_push(field).map_err(|_| TooMany)?;
-    Ok(reading)
+    reading?.with(field).ok_or(TooMany)
 }
 
 // Fields, unless there are too many to be kept.
 fn read_fields(mut text: &[u8]) -> Option<(Result<Reading, TooMany>, &[u8])>
     ensures { got_as kept_in (found result) ≡ got_as kept (read_fields text.now) }
 {
-    let mut reading = Ok(Reading::new());
+    let mut reading = Reading::new(&[]).ok_or(TooMany);
     loop {
         let (field, rest) = read_field(text)?;
         reading = longer(reading, field);

@@ -1,5 +1,12 @@
 // A reading as a point keeps it.
-use arrayvec::ArrayVec;
+ghost use Rattle.std.specs.Prelude.{◌≤◌};
 
-// At most sixteen fields, as every type has.
-pub type Reading = ArrayVec<i64, 16>;
+mod fields;
+
+// The first `count` of the places are the fields.
+#[derive(Clone, Copy)]
+pub struct Reading {
+    count: usize,
+    places: [i64; 16],
+    ghost few: { count ≤ 16 },
+}

@@ -1,8 +1,6 @@
 -- What the book's calls tell the board of a payload and of a reading. Assumes nothing.
-use Rattle.std.proofs.Common.{◌≡◌, ℕ, ◌<◌, ◌≤◌, List, length, get_or, take, ℤ, Some, None, Ok, Err, Option, refl, ap, arith}
-use Rattle.std.specs.List.{refill}
+use Rattle.std.proofs.Common.{◌≡◌, ℕ, ◌<◌, ◌≤◌, List, length, get_or, take, ℤ, Some, None, Ok, Err, Option, refl, arith}
 use Rattle.std.proofs.ByRecursion.{All-from_get_or}
-use Rattle.std.proofs.Math.Seq.{take-append_seam}
 use Rattle.std.proofs.lemmas.List.{take_at}
 use Rattle.std.proofs.lemmas.Bool.Decides.{nat_tests}
 use Rattle.datapoint.specs.Meaning.{Meaning, Lawful, Octets}
@@ -50,7 +48,3 @@ module _ (o : Option Meaning) (law : LawfulAt o) where
       by : (o : Option Meaning) → LawfulAt o → (a, after) ≡ write_in o xs out → reading_kept a xs ≡ accepted o xs
       by None law h = grind arith
       by (Some m) law h = written_by m (law m refl) xs out after a room h
-
--- what was written over a whole buffer
-pub over : (n k : ℕ) (out after : List ℤ) → k ≡ length after → take n (refill k out after) ≡ take n after
-over n k out after e = rw e (ap (take n) (take-append_seam after _))

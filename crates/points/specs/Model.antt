@@ -2,7 +2,7 @@
 use Rattle.std.specs.Prelude.{List, ℤ, Some, None, Ok, Err, Option, Result}
 use Rattle.datapoint.specs.declared.refusal.Refusal.{Refusal}
 use Rattle.datapoint.specs.Refusals.{told}
-use Rattle.arrayvec.specs.ArrayVec.{ArrayVec}
+use Rattle.listing.specs.declared.reading.Reading.{Reading}
 use Rattle.listing.specs.Fields.{fields_of, fields_in}
 use Rattle.model.specs.Points.{Point, unplaced, placed}
 use Rattle.model.specs.Calls.{Answer, Told}
@@ -11,7 +11,7 @@ use Rattle.points.specs.declared.placed.Telling.{Telling}
 use Rattle.points.specs.Marks.{mark_number}
 
 -- a reading that was taken, or the refusal as it is told
-abbrev pub taken_reading : Result (ArrayVec ℤ) Refusal → Answer (List ℤ)
+abbrev pub taken_reading : Result Reading Refusal → Answer (List ℤ)
 taken_reading (Ok r) = Ok (fields_of r)
 taken_reading (Err e) = Err (told e)
 

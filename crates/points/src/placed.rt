@@ -16,7 +16,7 @@ use datapoint::refusal::Refusal;
 use listing::reading::Reading;
 
 // Its type number, perhaps a normal reading and perhaps a forced reading.
-#[derive(Clone, PartialEq, Eq, Debug, Drop)]
+#[derive(Clone, Copy, PartialEq, Eq, Debug)]
 pub struct Placed {
     pub number: TypeNumber,
     pub normal: Option<Reading>,
@@ -91,7 +91,7 @@ impl Placed {
         ensures { (telling_answer result, out.new) ≡ reading_out (placed_point self.now) out.old }
     {
         let fields = match self.told() {
-            Some(reading) => deliver(reading, out)?,
+            Some(reading) => deliver(reading.fields(), out)?,
             None => 0,
         };
         Ok(Telling {
@@ -106,6 +106,6 @@ impl Placed {
         ensures { (answer result, out.new) ≡ sending_out (B.Book.types book.now) (placed_point self.now) out.old }
     {
         let reading = self.told().ok_or(Refusal::Silent)?;
-        book.write(self.number, reading, out)
+        book.write(self.number, reading.fields(), out)
     }
 }

@@ -13,10 +13,9 @@ use listing::reading::Reading;
 pub fn understand<B: Book>(book: &B, number: TypeNumber, payload: &[u8]) -> Result<Reading, Refusal>
     ensures { taken_reading result ≡ understood (B.Book.types book.now number) payload.now }
 {
-    let mut reading = Reading::from([0; 16]);
-    let fields = book.read(number, payload, &mut reading)?;
-    reading.truncate(fields);
-    Ok(reading)
+    let mut places = [0; 16];
+    let count = book.read(number, payload, &mut places)?;
+    Ok(Reading::new(&places[..count]).unwrap())
 }
 
 // A reading that the type accepts as it is: one that has a proper payload.
@@ -24,5 +23,5 @@ pub fn accept<B: Book>(book: &B, number: TypeNumber, reading: &[i64]) -> Result<
     ensures { taken_reading result ≡ accepted (B.Book.types book.now number) reading.now }
 {
     book.write(number, reading, &mut [0; 14])?;
-    Ok(Reading::try_from(reading).unwrap())
+    Ok(Reading::new(reading).unwrap())
 }
