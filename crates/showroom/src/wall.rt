@@ -1,7 +1,6 @@
 // Two boards: the panel's on the wall, and the server's.
 use crate::numbers::{SWITCH, TEMPERATURE};
 use crate::shown::Fields;
-use arrayvec::ArrayVec;
 use board::board::Board;
 use book::book::Book;
 use books::house::house_books;
@@ -32,13 +31,16 @@ fn told<B: Book>(rt: &HostRuntime, board: &Board<B>, point: usize) -> io::Result
     Ok(())
 }
 
-// Prints the board's list, and answers it.
-fn listed<B: Book>(rt: &HostRuntime, board: &Board<B>) -> io::Result<ArrayVec<u8, LONGEST>> {
-    let mut text = ArrayVec::from([0; LONGEST]);
-    let length = board.list(&mut text).unwrap_or(0);
-    text.truncate(length);
-    rt.stdout().write_all(&text)?;
-    Ok(text)
+// Prints the board's list, and answers it: it stands at the front of the text that is lent.
+fn listed<'a, B: Book>(
+    rt: &HostRuntime,
+    board: &Board<B>,
+    text: &'a mut [u8],
+) -> io::Result<&'a [u8]> {
+    let length = board.list(text).unwrap_or(0);
+    let list = &text[..length];
+    rt.stdout().write_all(list)?;
+    Ok(list)
 }
 
 // Points are placed, the dial's octets received, and a point forced: each step in its own words.
@@ -59,10 +61,11 @@ pub fn visit(rt: &HostRuntime) -> io::Result<()> {
     let mut server = Board::new(house_books());
     fill(rt, &mut panel)?;
     println!(rt; "The panel prints its list.")?;
-    let list = listed(rt, &panel)?;
+    let mut text = [0; LONGEST];
+    let list = listed(rt, &panel, &mut text)?;
     println!(rt; "The server loads that list, and prints its own.")?;
-    let granted = server.load(&list).is_ok();
-    let same = listed(rt, &server)? == list && granted;
+    let granted = server.load(list).is_ok();
+    let same = listed(rt, &server, &mut [0; LONGEST])? == list && granted;
     println!(rt; "   The two lists are the same: {same}.")?;
     println!(rt; "The lamp is released at the server. Its ordinary reading is back.")?;
     step(rt, "Release 7", server.release(7))?;
