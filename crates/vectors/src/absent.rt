@@ -1,10 +1,10 @@
 // Type numbers that no book has: those beside each range, and a few far off.
-use crate::given::{Entry, ROOM};
+use crate::given::Entry;
+use crate::item::ROOM;
 use crate::report::Report;
 use book::book::Book;
 use book::number::TypeNumber;
 use datapoint::refusal::Refusal;
-use std::alloc::{AllocError, Global};
 use std::io;
 
 static ABSENT: [(u16, u16); 57] = [
@@ -68,11 +68,9 @@ static ABSENT: [(u16, u16); 57] = [
 ];
 
 // Whether the book has no type of that number.
-fn is_absent<B: Book>(heap: Global, entry: &Entry<'_, B>) -> Result<bool, AllocError> {
+fn is_absent<B: Book>(entry: &Entry<'_, B>) -> bool {
     let refusal = Refusal::UnknownType;
-    let came = entry.call(heap, &[0u8], ROOM)?;
-    let out = entry.call(heap, &[0i64], ROOM)?;
-    Ok(came.is_refused(refusal) && out.is_refused(refusal))
+    entry.call(&[0u8], ROOM).is_refused(refusal) && entry.call(&[0i64], ROOM).is_refused(refusal)
 }
 
 // Runs calls that show that none of the numbers has a type, whichever of two books is bound first.
@@ -80,22 +78,15 @@ pub fn run_absent<A: Book, B: Book>(first: &A, second: &B, report: &mut Report) 
     for (main, sub) in ABSENT.iter().copied() {
         let number = TypeNumber { main, sub };
         let due = Refusal::UnknownType;
-        let heap = report.heap();
         report.row(
             format_args!("{number}  no type  refused with {due}"),
-            is_absent(
-                heap,
-                &Entry {
-                    book: first,
-                    number,
-                },
-            )? && is_absent(
-                heap,
-                &Entry {
-                    book: second,
-                    number,
-                },
-            )?,
+            is_absent(&Entry {
+                book: first,
+                number,
+            }) && is_absent(&Entry {
+                book: second,
+                number,
+            }),
             "    has a type",
         )?;
     }

@@ -3,16 +3,16 @@ use crate::item::Item;
 use datapoint::refusal::Refusal;
 
 #[derive(Debug, Drop)]
-pub struct Came<T> {
+pub struct Came<T: Item> {
     pub answer: Result<usize, Refusal>,
-    pub out: Vec<T>,
+    pub out: T::Buffer,
 }
 
 impl<T: Item> Came<T> {
     // Whether the items came, at the front of a buffer that keeps its rest.
     pub fn is(&self, items: &[T]) -> bool {
         self.answer == Ok(items.len())
-            && self.out.starts_with(items)
+            && T::places(&self.out).starts_with(items)
             && self.is_blank_from(items.len())
     }
 
@@ -22,6 +22,9 @@ impl<T: Item> Came<T> {
     }
 
     fn is_blank_from(&self, count: usize) -> bool {
-        self.out.iter().skip(count).all(|place| *place == T::BLANK)
+        T::places(&self.out)
+            .iter()
+            .skip(count)
+            .all(|place| *place == T::BLANK)
     }
 }

@@ -4,10 +4,6 @@ use crate::item::Item;
 use book::book::Book;
 use book::number::TypeNumber;
 use datapoint::refusal::Refusal;
-use std::alloc::{AllocError, Global};
-
-// The places of a buffer with room for any payload and reading.
-pub const ROOM: usize = 17;
 
 // An octet of a payload to be read, or a field of a reading to be written.
 pub trait Given: Item {
@@ -64,15 +60,12 @@ pub struct Entry<'a, B> {
 }
 
 impl<B: Book> Entry<'_, B> {
-    // What comes of a call into a buffer of that many places.
-    pub fn call<T: Given>(
-        &self,
-        heap: Global,
-        given: &[T],
-        room: usize,
-    ) -> Result<Came<T::Out>, AllocError> {
-        let mut out = vec![in heap; T::Out::BLANK; room]?;
-        let answer = T::call(self.book, self.number, given, &mut out);
-        Ok(Came { answer, out })
+    // What comes of a call into a buffer of that many places, and no more than ROOM.
+    pub fn call<T: Given>(&self, given: &[T], room: usize) -> Came<T::Out> {
+        let mut out = T::Out::BLANK.buffer();
+        let places = T::Out::places_mut(&mut out);
+        let room = room.min(places.len());
+        let answer = T::call(self.book, self.number, given, &mut places[..room]);
+        Came { answer, out }
     }
 }

@@ -1,8 +1,14 @@
 // Octets and fields, and how payloads and readings are printed.
 use std::fmt;
 
+// The places of a buffer: room for any payload and reading, and for an item more.
+pub const ROOM: usize = 17;
+
 // An octet of a payload, or a field of a reading.
 pub trait Item: Copy + Default + PartialEq + fmt::Debug {
+    // A buffer of items, in place. It is a type of the item's own, since a generic function holds no array of its parameter.
+    type Buffer: fmt::Debug + Drop;
+
     // What a place of a buffer holds before a call.
     const BLANK: Self;
 
@@ -15,11 +21,22 @@ pub trait Item: Copy + Default + PartialEq + fmt::Debug {
     // What is printed between two items.
     const GAP: &'static str;
 
+    // A buffer with the item in each place.
+    fn buffer(self) -> Self::Buffer;
+
+    // The places of a buffer.
+    fn places(buffer: &Self::Buffer) -> &[Self];
+
+    // The places of a buffer, to be filled.
+    fn places_mut(buffer: &mut Self::Buffer) -> &mut [Self];
+
     // Prints an item.
     fn show<W: fmt::Write>(&self, f: &mut fmt::Formatter<W>) -> fmt::Result;
 }
 
 impl Item for u8 {
+    type Buffer = [u8; ROOM];
+
     const BLANK: u8 = 0xEE;
 
     const NAME: &'static str = "octet";
@@ -28,6 +45,18 @@ impl Item for u8 {
 
     const GAP: &'static str = " ";
 
+    fn buffer(self) -> [u8; ROOM] {
+        [self; ROOM]
+    }
+
+    fn places(buffer: &[u8; ROOM]) -> &[u8] {
+        buffer
+    }
+
+    fn places_mut(buffer: &mut [u8; ROOM]) -> &mut [u8] {
+        buffer
+    }
+
     // Two hexadecimal digits.
     fn show<W: fmt::Write>(&self, f: &mut fmt::Formatter<W>) -> fmt::Result {
         write!(f, "{self:02X}")
@@ -35,6 +64,8 @@ impl Item for u8 {
 }
 
 impl Item for i64 {
+    type Buffer = [i64; ROOM];
+
     const BLANK: i64 = -77;
 
     const NAME: &'static str = "field";
@@ -42,6 +73,18 @@ impl Item for i64 {
     const ONE: &'static str = "a field";
 
     const GAP: &'static str = ",";
+
+    fn buffer(self) -> [i64; ROOM] {
+        [self; ROOM]
+    }
+
+    fn places(buffer: &[i64; ROOM]) -> &[i64] {
+        buffer
+    }
+
+    fn places_mut(buffer: &mut [i64; ROOM]) -> &mut [i64] {
+        buffer
+    }
 
     // Decimal.
     fn show<W: fmt::Write>(&self, f: &mut fmt::Formatter<W>) -> fmt::Result {

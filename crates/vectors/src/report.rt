@@ -1,5 +1,4 @@
 // The rows that are printed, and their counts.
-use std::alloc::Global;
 use std::fmt::Display;
 use std::io;
 
@@ -17,10 +16,6 @@ impl Report {
             rows: 0,
             differing: 0,
         }
-    }
-
-    pub fn heap(&self) -> Global {
-        self.rt.alloc()
     }
 
     // Prints a line over rows.

@@ -1,13 +1,12 @@
 // Calls of a book at one type number, and a row for each.
 use crate::came::Came;
-use crate::given::{Entry, Given, ROOM};
-use crate::item::{Item, Items};
+use crate::given::{Entry, Given};
+use crate::item::{Item, Items, ROOM};
 use crate::report::Report;
 use crate::vector::{Page, Shape, Vector};
 use book::book::Book;
 use book::number::TypeNumber;
 use datapoint::refusal::Refusal;
-use std::alloc::AllocError;
 use std::fmt::Display;
 use std::io;
 
@@ -51,9 +50,9 @@ impl<'a, B: Book> Trial<'a, B> {
         }
     }
 
-    // What comes of a call into a buffer of that many places.
-    fn call<T: Given>(&self, given: &[T], room: usize) -> Result<Came<T::Out>, AllocError> {
-        self.entry.call(self.report.heap(), given, room)
+    // What comes of a call into a buffer of that many places, and no more than ROOM.
+    fn call<T: Given>(&self, given: &[T], room: usize) -> Came<T::Out> {
+        self.entry.call(given, room)
     }
 
     // Prints a row at the type number.
@@ -94,9 +93,9 @@ impl<'a, B: Book> Trial<'a, B> {
 
     // A payload reads so, and the reading goes out as the proper payload, which reads the same.
     fn run_reading(&mut self, payload: &[u8], reading: &[i64], proper: &[u8]) -> io::Result<()> {
-        let came = self.call(payload, ROOM)?;
-        let out = self.call(reading, ROOM)?;
-        let again = self.call(proper, ROOM)?;
+        let came = self.call(payload, ROOM);
+        let out = self.call(reading, ROOM);
+        let again = self.call(proper, ROOM);
         let agrees = came.is(reading) && out.is(proper) && again.is(reading);
         self.row(
             format_args!(
@@ -112,7 +111,7 @@ impl<'a, B: Book> Trial<'a, B> {
 
     // A payload or a reading that is not legal.
     fn run_illegal<T: Given>(&mut self, given: &[T]) -> io::Result<()> {
-        let came = self.call(given, ROOM)?;
+        let came = self.call(given, ROOM);
         self.refused(Items(given), T::ILLEGAL, &came)
     }
 
@@ -124,34 +123,35 @@ impl<'a, B: Book> Trial<'a, B> {
         self.run_long_buffer(shape.payload, shape.reading)?;
         self.run_long_buffer(shape.reading, shape.payload)?;
         let refusal = Refusal::IllegalReading;
-        let came = self.with_extremes(shape.reading, i64::MIN)?;
+        let came = self.with_extremes(shape.reading, i64::MIN);
         self.refused("the least field", refusal, &came)?;
-        let came = self.with_extremes(shape.reading, i64::MAX)?;
+        let came = self.with_extremes(shape.reading, i64::MAX);
         self.refused("the greatest field", refusal, &came)
     }
 
     // A payload or a reading that is empty, or an item too long.
     fn run_lengths<T: Given>(&mut self, given: &[T]) -> io::Result<()> {
         let refusal = Refusal::WrongLength { due: given.len() };
-        let came = self.call::<T>(&[], ROOM)?;
+        let came = self.call::<T>(&[], ROOM);
         self.refused(format_args!("no {}", T::NAME), refusal, &came)?;
-        let mut longer = given.to_vec(self.report.heap())?;
-        longer.push(T::default())?;
-        let came = self.call(&longer, ROOM)?;
+        let longer = padded(given);
+        let longer = T::places(&longer);
+        let count = given.len().saturating_add(1).min(longer.len());
+        let came = self.call(&longer[..count], ROOM);
         self.refused(format_args!("{} more", T::ONE), refusal, &came)
     }
 
     // A buffer that is an item too short for what is due.
     fn run_short_buffer<T: Given>(&mut self, given: &[T], due: &[T::Out]) -> io::Result<()> {
         let needed = due.len();
-        let came = self.call(given, needed.saturating_sub(1))?;
+        let came = self.call(given, needed.saturating_sub(1));
         let given = format_args!("into {} less", T::Out::ONE);
         self.refused(given, Refusal::ShortBuffer { needed }, &came)
     }
 
     // A buffer that is longer than needed keeps its rest.
     fn run_long_buffer<T: Given>(&mut self, given: &[T], due: &[T::Out]) -> io::Result<()> {
-        let came = self.call(given, due.len().saturating_add(1))?;
+        let came = self.call(given, due.len().saturating_add(1));
         let answer = came.answer;
         self.row(
             format_args!("into {} more  keeps the rest", T::Out::ONE),
@@ -161,17 +161,26 @@ impl<'a, B: Book> Trial<'a, B> {
     }
 
     // What comes of the reading with each of its fields in turn, and then all, made extreme: the first that is not refused.
-    fn with_extremes(&self, reading: &[i64], extreme: i64) -> io::Result<Came<u8>> {
+    fn with_extremes(&self, reading: &[i64], extreme: i64) -> Came<u8> {
+        let count = reading.len().min(ROOM);
         // The place is what this is over: each field in turn is replaced.
-        for place in 0..reading.len() {
-            let mut fields = reading.to_vec(self.report.heap())?;
+        for place in 0..count {
+            let mut fields = padded(reading);
             fields[place] = extreme;
-            let came = self.call(&fields, ROOM)?;
+            let came = self.call(&fields[..count], ROOM);
             if !came.is_refused(Refusal::IllegalReading) {
-                return Ok(came);
+                return came;
             }
         }
-        let fields = vec![in self.report.heap(); extreme; reading.len()]?;
-        Ok(self.call(&fields, ROOM)?)
+        self.call(&[extreme; ROOM][..count], ROOM)
     }
+}
+
+// A buffer with the items at its front, and defaults behind them.
+fn padded<T: Item>(items: &[T]) -> T::Buffer {
+    let mut buffer = T::default().buffer();
+    for (place, item) in T::places_mut(&mut buffer).iter_mut().zip(items) {
+        *place = *item;
+    }
+    buffer
 }
