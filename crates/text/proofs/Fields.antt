@@ -1,52 +1,65 @@
--- What `map` and `try_map` make of an array of fields or octets. Assumes nothing.
-use Rattle.std.proofs.Common.{◌≡◌, ℕ, ◌<◌, ◌≤◌, ◌&&◌, List, [], ◌∷◌, map, length, get_or, ℤ, pos, negsuc, unsigned_abs, Some, None, Option, Ok, Err, Result, sym, refl, ap, ap₂, ◌∙◌, arith}
-use denote.Param.Members.{Mut}
-use Rattle.std.specs.Array.{IsMapOf, AllZipBelow}
-use Rattle.std.specs.Fn.{Called}
-use Rattle.std.specs.Int.{FitsUnsignedBits}
-use Rattle.std.specs.Option.{MatchOption}
-use Rattle.std.specs.Result.{IfOk, IfErr, OkIff, result_ok}
-use Rattle.std.specs.List.{Any, AllZip, IsAmong}
-use Rattle.std.proofs.lemmas.List.{ext_get_or, get_or-map, length-map}
+-- What an array of fields and one of octets have in common. Assumes nothing.
+use Rattle.std.proofs.Common.{◌≡◌, ◌≢◌, ℕ, suc, ◌+◌, ◌-◌, ◌<◌, ◌≤◌, true, List, [], ◌∷◌, ◌++◌, map, length, get_or, take, set, replicate, get_or-set_other, get_or-set_same, below_more, ℤ, pos, Some, None, Option, sym, refl, ap, ◌∙◌, append_assoc, arith}
+use Rattle.std.specs.List.{Any}
+use Rattle.std.proofs.lemmas.List.{ext_get_or, get_or-map, length-map, length-set, length-take, length-take-le, get_or-take, map-set, set_at, take_more}
+use Rattle.std.proofs.lemmas.List.Elements.{All-from_get_or}
+use Rattle.std.proofs.lemmas.Int.{ints}
 use Rattle.datapoint.specs.Shapes.{when}
-use Rattle.text.specs.Text.{text, legal, ended}
-use Rattle.text.specs.Naturals.{naturals_pos}
-use Rattle.text.specs.Legal.{from_payload}
-use Rattle.text.specs.Within.{all_within}
+use Rattle.text.specs.Text.{within, ended, text, UpTo}
+use Rattle.text.specs.Legal.{from_payload, payload_of}
+use Rattle.text.specs.Within.{all_within, within_all}
 
--- `map` by a closure that computes k
-pub mapped : {F A B : Type 0} {g : Mut F (A × Unit {0}) B} {f : F} (k : A → B) (xs : List A) (ys : List B) (n : ℕ) (d : A) (e : B) → length xs ≡ n → IsMapOf g f xs ys n → ((x : A) (y : B) (p q : F) → Called g p (x, tt) y q → y ≡ k x) → ys ≡ map k xs
-mapped k xs ys n d e long m computes =
-    ext_get_or e ys (map k xs) (m.long ∙ sym long ∙ sym (length-map xs k))
-    (λ i within. let here = m.at i d e (omega (arith, m.long)) in
-    computes _ _ _ _ here.2 ∙ sym (get_or-map k xs i d e (omega (arith, m.long))))
+-- `fields`: the first i octets as fields, and then 0
+abbrev pub shown : List ℕ → ℕ → List ℤ
+shown p i = map pos (take i p ++ replicate (14 - i) 0)
 
--- `try_map` by a closure that gives the octet that a field is, if it is one
-octet_is : (x : ℤ) (n : ℕ) → FitsUnsignedBits 8 x → n ≡ unsigned_abs x → x ≡ pos n
-octet_is (pos m) n fits is = ap pos (sym is)
-octet_is (negsuc m) n fits is = absurd fits
+pub shown_more : (p : List ℕ) (fields : List ℤ) (n i : ℕ) (x : ℤ) → length p ≡ 14 → i < length (take n p) → fields ≡ shown p i → x ≡ pos (get_or (take n p) i 0) → set fields i x ≡ shown p (i + 1)
+shown_more p fields n i x long inside so_far is =
+    let short : i < n = omega (arith, length-take {A = ℕ}) in
+    let there : i < length p = omega (arith, length-take {A = ℕ}) in
+    let left : 14 - i ≡ suc (14 - (i + 1)) = omega arith in
+    let after : List ℕ = replicate (14 - (i + 1)) 0 in
+    ap (λ q. set q i x) so_far
+    ∙ ap (set (shown p i) i) (is ∙ ap pos (get_or-take n p i 0 short))
+    ∙ sym (map-set pos (take i p ++ replicate (14 - i) 0) i (get_or p i 0))
+    ∙ ap (λ n. map pos (set (take i p ++ replicate n 0) i (get_or p i 0))) left
+    ∙ ap (map pos) (set_at (take i p) 0 after (get_or p i 0) i (length-take-le i p (omega arith)))
+    ∙ ap (map pos) (sym (append_assoc (take i p) (get_or p i 0 ∷ []) after))
+    ∙ ap (λ q. map pos (q ++ after)) (sym (take_more p i 0 there))
 
-module _ {E F : Type 0} {g : Mut F (ℤ × Unit {0}) (Result ℕ E)} (converts : (x : ℤ) (r : Result ℕ E) (p q : F) → Called g p (x, tt) r q → OkIff r (FitsUnsignedBits 8 x) (unsigned_abs x)) where
-  all_octets : (xs : List ℤ) (ns : List ℕ) → AllZip (λ x n. (p : F) × (q : F) × Called g p (x, tt) (Ok n) q) xs ns → xs ≡ map pos ns
-  all_octets [] [] h = refl
-  all_octets [] (n ∷ ns) h = absurd h
-  all_octets (x ∷ xs) [] h = absurd h
-  all_octets (x ∷ xs) (n ∷ ns) h = let here = converts x (Ok n) h.0.0 h.0.1 h.0.2 in ap₂ ◌∷◌ (octet_is x n here.0 here.1) (all_octets xs ns h.1)
+-- `as_octets`: the first i octets are the first i fields, and none is above the highest
+pub record Taken (highest : ℕ) (xs : List ℤ) (octets : List ℕ) (i : ℕ) : Type 0 where
+  pub long : length octets ≡ 14
+  pub below : (k : ℕ) → k < i → (get_or xs k (pos 0) ≡ pos (get_or octets k 0)) × (get_or octets k 0 ≤ highest)
 
-  pub tried : (xs : List ℤ) (r : Result (List ℕ) E) (n : ℕ) →
-      IfOk r (λ ns. AllZipBelow (λ x n. (p : F) × (q : F) × Called g p (x, tt) (Ok n) q) xs ns n) →
-      IfErr r (λ e. (x : ℤ) × IsAmong xs x × (p : F) × (q : F) × Called g p (x, tt) (Err e) q) →
-      MatchOption (result_ok r) (Any (λ x. ¬ FitsUnsignedBits 8 x) xs) (λ ns. xs ≡ map pos ns)
-  tried xs (Ok ns) n ok err = all_octets xs ns ok.whole
-  tried xs (Err e) n ok err = (err.1.0, err.0, err.1.1.0, sym err.1.1.1, converts err.0 (Err e) err.2 err.3 err.4)
+module _ (highest : ℕ) (xs : List ℤ) (octets : List ℕ) where
+  pub taken_none : length octets ≡ 14 → Taken highest xs octets 0
+  taken_none long = record { long = long; below = λ k h. absurd (omega arith) }
 
--- the proper payload of octets
-pub payload_of_octets : (highest : ℕ) (p : List ℕ) → (text highest).payload (map pos p) ≡ when (legal highest p && ended p) p
-payload_of_octets highest p = naturals_pos (λ q. when (legal highest q && ended q) q) p
+  pub taken_more : (i n : ℕ) → i < 14 → Taken highest xs octets i → (get_or xs i (pos 0) ≡ pos n) × (n ≤ highest) → Taken highest xs (set octets i n) (i + 1)
+  taken_more i n inside t here =
+      let there : i < length octets = omega (arith, t.long) in
+      record {
+        long = length-set octets i n ∙ t.long;
+        below = below_more (λ k. (get_or xs k (pos 0) ≡ pos (get_or (set octets i n) k 0)) × (get_or (set octets i n) k 0 ≤ highest)) i
+            (λ k h. let other : k ≢ i = omega arith in rw get_or-set_other (t.below k h))
+            (rw get_or-set_same here);
+      }
 
--- a field that is no octet leaves the reading without a payload
-pub payload_of_other : (highest : ℕ) (xs : List ℤ) → highest < 256 → Any (λ x. ¬ FitsUnsignedBits 8 x) xs → (text highest).payload xs ≡ None
-payload_of_other highest xs octet other = go ((text highest).payload xs) refl
+  pub taken_all : (i : ℕ) → length xs ≡ 14 → 14 ≤ i → Taken highest xs octets i → (xs ≡ map pos octets) × (within highest octets ≡ true)
+  taken_all i due past t = (
+    ext_get_or (pos 0) xs (map pos octets) (due ∙ sym t.long ∙ sym (length-map octets pos))
+        (λ k inside. (t.below k (omega arith)).0 ∙ sym (get_or-map pos octets k 0 (pos 0) (omega (arith, t.long)))),
+    within_all highest octets (All-from_get_or (λ b. b ≤ highest) octets 0 (λ k inside. (t.below k (omega (arith, t.long))).1)),
+  )
+
+-- the proper payload of octets up to the highest
+pub payload_of_octets : (highest : ℕ) (p : List ℕ) → length p ≡ 14 → within highest p ≡ true → (text highest).payload (map pos p) ≡ when (ended p) p
+payload_of_octets highest p long low = payload_of highest p (record { long = long; low = low })
+
+-- a field that is no octet up to the highest leaves the reading without a payload
+pub payload_of_other : (highest : ℕ) (xs : List ℤ) → Any (λ x. ¬ UpTo highest x) xs → (text highest).payload xs ≡ None
+payload_of_other highest xs other = go ((text highest).payload xs) refl
   where
     go : (o : Option (List ℕ)) → (text highest).payload xs ≡ o → (text highest).payload xs ≡ None
     go None e = e
@@ -57,4 +70,4 @@ payload_of_other highest xs octet other = go ((text highest).payload xs) refl
         let inside : i < length p = omega (arith, other.2, ap length w.is, length-map p pos) in
         let is : x ≡ pos (get_or p i 0) = sym other.3 ∙ ap (λ l. get_or l i x) (sym w.is) ∙ get_or-map pos p i 0 x inside in
         let low : get_or p i 0 ≤ highest = all_within highest p w.allowed.low i 0 inside in
-        absurd (other.4 (rw is (omega arith)))
+        absurd (other.4 (rw is (omega (arith, ints), omega (arith, ints))))

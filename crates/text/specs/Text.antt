@@ -1,5 +1,5 @@
 -- Text of fourteen characters. Assumes nothing.
-use Rattle.std.specs.Prelude.{ℕ, ◌-◌, Bool, ◌&&◌, List, [], ◌∷◌, ◌++◌, map, length, drop, replicate, ℤ, pos, Option, ◌==◌, nat_le}
+use Rattle.std.specs.Prelude.{ℕ, ◌-◌, Bool, ◌&&◌, List, [], ◌∷◌, ◌++◌, map, length, drop, replicate, ℤ, pos, ◌≤ℤ◌, Option, ◌==◌, nat_le}
 use Rattle.std.specs.List.{list_all, before_first}
 use Rattle.datapoint.specs.Meaning.{Meaning}
 use Rattle.datapoint.specs.Shapes.{when, natural}
@@ -23,6 +23,10 @@ cleared p = characters p ++ replicate (length p - length (characters p)) 0
 -- nothing but 0 stands after the characters
 abbrev pub ended : List ℕ → Bool
 ended p = within 0 (drop (length (characters p)) p)
+
+-- a field from 0 to the highest
+abbrev pub UpTo : ℕ → ℤ → Type 0
+UpTo highest x = (pos 0 ≤ℤ x) × (x ≤ℤ pos highest)
 
 -- of fields that are no less than 0
 abbrev pub naturals : {B : Type 0} → (List ℕ → Option B) → List ℤ → Option B

@@ -1,7 +1,6 @@
 // Text of fourteen characters. What stands after the first 00 reads 0.
-ghost use Rattle.std.specs.Prelude.{◌≡◌, ◌<◌, ◌≤◌, Any, map, length, pos, MatchOption};
-ghost use Rattle.std.specs.Int.{FitsUnsignedBits};
-ghost use Rattle.text.specs.Text.{within, legal, characters, cleared, ended, text};
+ghost use Rattle.std.specs.Prelude.{◌≡◌, true, ◌<◌, ◌≤◌, Any, map, length, pos, MatchOption};
+ghost use Rattle.text.specs.Text.{within, legal, characters, cleared, ended, text, UpTo};
 ghost use Rattle.text.specs.Laws;
 
 use datapoint::datapoint_type::{Counts, DatapointType};
@@ -38,7 +37,23 @@ impl Text {
     fn proper(self, reading: &[i64; FIELDS]) -> Option<[u8; OCTETS]>
         ensures { result ≡ (text self.highest).payload reading.now }
     {
-        as_octets(reading).filter(|payload| self.is_legal(payload) && ended(payload))
+        let payload = self.as_octets(reading)?;
+        ended(&payload).then_some(payload)
+    }
+
+    // The fields as octets, if each is one up to the highest.
+    fn as_octets(self, reading: &[i64; FIELDS]) -> Option<[u8; OCTETS]>
+        ensures { MatchOption result (Any (λ x. ¬ UpTo self.highest x) reading.now) (λ octets. (reading.now ≡ map pos octets) × (within self.highest octets ≡ true)) }
+    {
+        // A loop, since an array's `try_map` takes three times as long.
+        let mut octets = [0; OCTETS];
+        for (i, field) in reading.iter().enumerate() {
+            if *field < 0 || *field > i64::from(self.highest) {
+                return None;
+            }
+            octets[i] = *field as u8;
+        }
+        Some(octets)
     }
 }
 
@@ -73,13 +88,6 @@ impl DatapointType for Text {
     }
 }
 
-// The fields as octets, if each is one.
-fn as_octets(reading: &[i64; FIELDS]) -> Option<[u8; OCTETS]>
-    ensures { MatchOption result (Any (λ x. ¬ FitsUnsignedBits 8 x) reading.now) (λ octets. reading.now ≡ map pos octets) }
-{
-    reading.try_map(u8::try_from).ok()
-}
-
 // Whether no octet is above the highest.
 fn within(highest: u8, octets: &[u8]) -> bool
     ensures { result ≡ within highest octets.now }
@@ -102,18 +110,13 @@ fn ended(octets: &[u8]) -> bool
     within(0, &octets[character_count(octets)..])
 }
 
-// The characters, and then 00.
-fn cleared(payload: &[u8; OCTETS]) -> [u8; OCTETS]
-    ensures { result ≡ cleared payload.now }
-{
-    let mut cleared = *payload;
-    cleared[character_count(payload)..].fill(0);
-    cleared
-}
-
 // The characters as fields, and then 0.
 fn fields(payload: &[u8; OCTETS]) -> [i64; FIELDS]
     ensures { result ≡ map pos (cleared payload.now) }
 {
-    cleared(payload).map(i64::from)
+    let mut fields = [0; FIELDS];
+    for (i, character) in payload[..character_count(payload)].iter().enumerate() {
+        fields[i] = i64::from(*character);
+    }
+    fields
 }
