@@ -1,7 +1,7 @@
 -- The octets of a sheet. Assumes nothing.
-use Rattle.std.proofs.Common.{◌≡◌, ℕ, ◌+◌, ◌-◌, ◌≤◌, List, length, drop, replicate, sym, ap, ◌∙◌, arith}
+use Rattle.std.proofs.Common.{◌≡◌, ℕ, ◌+◌, ◌-◌, ◌≤◌, List, length, drop, set, replicate, sym, ap, ◌∙◌, arith}
 use borrow.Rule.Slice.PartMut.{put_mid}
-use Rattle.std.proofs.lemmas.List.{drop-drop, drop-replicate}
+use Rattle.std.proofs.lemmas.List.{drop-drop, drop-set-lt, drop-replicate}
 use Rattle.std.proofs.lemmas.Slice.{drop-put_mid}
 
 -- a text that grows to n octets leaves zeros behind it
@@ -14,4 +14,14 @@ zeros_left room len n octets more all zeros on fits long =
     ∙ sym (drop-drop (n - len) len octets)
     ∙ ap (drop (n - len)) zeros
     ∙ drop-replicate (n - len) (room - len) 0
+    ∙ ap (λ m. replicate m 0) less
+
+-- a text that grows by one octet leaves zeros behind it
+pub zeros_behind : (room len : ℕ) (octets : List ℕ) (octet : ℕ) → drop len octets ≡ replicate (room - len) 0 → drop (len + 1) (set octets len octet) ≡ replicate (room - (len + 1)) 0
+zeros_behind room len octets octet zeros =
+    let less : room - len - 1 ≡ room - (len + 1) = omega arith in
+    drop-set-lt (len + 1) octets len octet (omega arith)
+    ∙ sym (drop-drop 1 len octets)
+    ∙ ap (drop 1) zeros
+    ∙ drop-replicate 1 (room - len) 0
     ∙ ap (λ m. replicate m 0) less

@@ -1,5 +1,5 @@
 // A text that is made up in a place of fixed size.
-ghost use Rattle.std.specs.Prelude.{◌≡◌, ◌+◌, ◌≤◌, [], ◌++◌, length, take};
+ghost use Rattle.std.specs.Prelude.{◌≡◌, ◌+◌, ◌≤◌, [], ◌∷◌, ◌++◌, length, take};
 ghost use Rattle.listing.specs.Pages.{with_all};
 
 use arrayvec::CapacityError;
@@ -47,12 +47,25 @@ impl<const CAP: usize> Sheet<CAP> {
         &self.octets[..self.len]
     }
 
-    // Adds these octets, as far as there is room.
+    // Adds these octets, as far as there is room. One by one: a piece is a few octets, too short for the copy of a block to pay.
     pub(crate) fn push(&mut self, octets: &[u8])
         ensures { self.new ≡ take CAP (self.old ++ octets.now) }
     {
-        let count = octets.len().min(CAP - self.len);
-        self.append(&octets[..count]);
+        // Opens the text for the proof, which learns that it fits.
+        let _ = &self.len;
+        for octet in octets {
+            self.push_octet(*octet);
+        }
+    }
+
+    // Adds this octet, if there is room.
+    fn push_octet(&mut self, octet: u8)
+        ensures { self.new ≡ take CAP (self.old ++ (octet ∷ [])) }
+    {
+        if self.len < CAP {
+            self.octets[self.len] = octet;
+            self.len += 1;
+        }
     }
 
     // Adds these octets, if there is room for all of them.
